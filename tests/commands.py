@@ -20,7 +20,7 @@ import sys
 import time
 from functools import partial
 from pathlib import Path
-from typing import Callable, Dict, List, NamedTuple, Optional, Sequence, Set, Tuple, Union
+from typing import Callable, Dict, Iterable, List, NamedTuple, Optional, Sequence, Set, Tuple, Union
 
 sys.dont_write_bytecode = True
 sys.path.insert(0, str(Path(__file__).resolve().parent.parent / "tools"))
@@ -1683,8 +1683,10 @@ def stale_image(tried: Commands) -> None:
 BOLD, AS_BEFORE = b"\x1b[1m", b"\x1b[0m"
 
 
-def shown_text(volume: str, contents: str, created: str, changed: str, boot: str = "none") -> str:
-    """The text of `show`, by its lines."""
+def shown_text(volume: str, contents: str, created: str, changed: str, boot: str = "none", lost: str = "") -> str:
+    """The text of `show`, by its lines. There is one for the lost blocks only if there are some."""
+    if lost:
+        contents += f"\n{lost}"
     return f"{volume}\n{contents}\ncreated {created}, changed {changed}\nboot block: {boot}\n"
 
 
@@ -1743,6 +1745,7 @@ def shown_volumes(tried: Commands) -> None:
     )
     members = {"name": "Work", "kind": "DOS\\1", "blocks": 1760, "validated": False, "files": 4, "directories": 3, "used": 14, "free": 1744}
     members.update({"created": f"{first}.00", "changed": f"{later}.00", "boot": "none"})
+    members.update({"lost": 0, "lost_files": 0, "lost_directories": 0})
     shown = tried.content("show.adf")
     told = tried.run("show", "--json", "show.adf")
     tried.report.same("show --json: its members in order", list(json.loads(told.output).items()), list(members.items()))
@@ -1769,6 +1772,60 @@ def shown_volumes(tried: Commands) -> None:
         tried.write("booted.adf", blocks.ljust(2 * BLOCK, b"\0") + blank[2 * BLOCK :])
         tried.rows(row(f"show of a boot block: {said}", "show booted.adf", 0, shown_text(ffs, none, first, first, said)))
         tried.report.same(f"show --json of a boot block: {said}", json.loads(tried.run("show", "--json", "booted.adf").output)["boot"], word)
+
+
+FILE_HEADER, DIRECTORY_HEADER = -3, 2
+
+
+def with_lost(blank: bytes, lost: Iterable[int], headers: Dict[int, int]) -> bytes:
+    """A blank floppy with blocks that are marked used and belong to nothing, and with sound headers of these types."""
+    image = Image(blank)
+    for block in lost:
+        image.put(881, 1 + (block - 2) // 32, image.long(881, 1 + (block - 2) // 32) & ~(1 << (block - 2) % 32))
+    image.settle(881, 0)
+    for block, kind in headers.items():
+        for at, value in ((0, 2), (1, block), (108, 0x01610000), (127, kind)):
+            image.put(block, at, value)
+        image.settle(block)
+    return bytes(image.data)
+
+
+def lost_blocks(tried: Commands) -> None:
+    """`show` of volumes with lost blocks, and with sound headers among them, as text and as JSON. A header that is marked free, or
+    with a wrong sum, is not counted, nor is a lost block of another kind."""
+    first = "1990-01-01 12:00:00"
+    tried.rows(row("a volume for lost blocks", ["blank", "--ffs", "--date", first, "Work", "unlost.adf"]))
+    blank = tried.content("unlost.adf")
+    two, four = {5: FILE_HEADER, 6: FILE_HEADER}, {5: FILE_HEADER, 6: DIRECTORY_HEADER, 7: FILE_HEADER, 8: DIRECTORY_HEADER}
+    wrong = drawn(with_lost(blank, [5, 6], two), "5.81=1")
+    extension = drawn(with_lost(blank, [5, 6], two), "5.0=16 6.0=8", "5.5 6.5")
+    last = {1759: DIRECTORY_HEADER}
+    rows: List[Tuple[str, bytes, int, str, int, int]] = [
+        ("no block", blank, 0, "", 0, 0),
+        ("a block", with_lost(blank, [5], {}), 1, "1 lost block", 0, 0),
+        ("a file", with_lost(blank, [5], {5: FILE_HEADER}), 1, "1 lost block, 1 file among them", 1, 0),
+        ("a directory", with_lost(blank, [1759], last), 1, "1 lost block, 1 directory among them", 0, 1),
+        ("two files", with_lost(blank, range(5, 158), two), 153, "153 lost blocks, 2 files among them", 2, 0),
+        ("a file and a directory", with_lost(blank, range(5, 9), {5: FILE_HEADER, 6: DIRECTORY_HEADER}), 4, "4 lost blocks, 1 file and 1 directory among them", 1, 1),
+        ("two of both", with_lost(blank, range(2, 880), four), 878, "878 lost blocks, 2 files and 2 directories among them", 2, 2),
+        ("two directories", with_lost(blank, [6, 8], four), 2, "2 lost blocks, 2 directories among them", 0, 2),
+        ("free headers", with_lost(blank, [9], four), 1, "1 lost block", 0, 0),
+        ("a wrong sum", wrong, 2, "2 lost blocks, 1 file among them", 1, 0),
+        ("other kinds", extension, 2, "2 lost blocks", 0, 0),
+        ("every block", with_lost(blank, [*range(2, 880), *range(882, 1760)], last), 1756, "1,756 lost blocks, 1 directory among them", 0, 1),
+    ]
+    ffs = "Work   FFS, double density, 1,760 blocks, bitmap valid"
+    for name, image, blocks, line, files, directories in rows:
+        tried.write("lost.adf", image)
+        amounts = f"0 files, 0 directories, {(2 + blocks) // 2:,} KB used, {(1756 - blocks) // 2:,} KB free"
+        tried.rows(row(f"show of lost blocks: {name}", "show lost.adf", 0, shown_text(ffs, amounts, first, first, lost=line)))
+        told = json.loads(tried.run("show", "--json", "lost.adf").output)
+        counted = {"lost": blocks, "lost_files": files, "lost_directories": directories}
+        tried.report.same(f"show --json of lost blocks: {name}", list(told.items())[-3:], list(counted.items()))
+    # A bitmap that is not valid is made anew, without lost blocks.
+    tried.write("lost.adf", drawn(with_lost(blank, [5], {5: FILE_HEADER}), "880.78=0", "880.5"))
+    none = "0 files, 0 directories, 1 KB used, 878 KB free"
+    tried.rows(row("show without lost blocks where the bitmap is rebuilt", "show lost.adf", 0, shown_text(ffs.replace("valid", "not valid (rebuilt in memory)"), none, first, first)))
 
 
 def refusal(words: str, told: str) -> str:
@@ -2041,6 +2098,10 @@ def bad_blocks(tried: Commands) -> None:
             tried.rows(lacking(f"--bad: {line!r}", f"extract --damaged {words} --bad wrong.txt bad.adf", "'wrong.txt', line 4: the number of one of the image's 1,760 blocks is expected"))
     tried.absent("and nothing is written", "none")
     tried.rows(lacking("--bad of no file", "extract --damaged --list --bad missing.txt bad.adf", "cannot read 'missing.txt'"))
+    for words in ("map --bad {} bad.adf", "map --tracks --bad {} bad.adf", "where --json --bad {} bad.adf 880"):
+        tried.rows(lacking(words.format("wrong.txt"), words.format("wrong.txt"), "'wrong.txt', line 4: the number of one of the image's 1,760 blocks is expected"))
+        tried.rows(lacking(words.format("missing.txt"), words.format("missing.txt"), "cannot read 'missing.txt'"))
+    tried.rows(row("where with a list of bad blocks", "where --bad good.txt bad.adf 3 880", 0, "3  cyl 0 head 0 sector 3  free\n3  unread\n880  cyl 40 head 0 sector 0  root\n"))
     tried.rows(wrong("--bad without --damaged", "extract --bad good.txt bad.adf", "--damaged", "Usage"))
 
 
@@ -2085,7 +2146,7 @@ PARTS: List[Callable[[Commands], None]] = [
     *(standard_boot, shown_boots, saved_boots, named_boots, boot_options),
     *(held_images, readers_of_held_images, missing_files, errors_of_the_host, denied_files, first_faults),
     *(accepted_images, forms_of_lists, refused_images, stale_image, refused_output),
-    *(shown_volumes, refused_shows, bold_letters, sorted_lists),
+    *(shown_volumes, lost_blocks, refused_shows, bold_letters, sorted_lists),
     *(first_blocks, first_blocks_of_several, changed_first_blocks, wrong_first_blocks, missing_blocks, bad_blocks),
 ]
 

@@ -52,6 +52,13 @@ PAGE = Rules()
 NOW = Rules(links=True, typed=True, capped=True, again=True, stale=True)
 # What stands on standard error of an FFS disk.
 NO_SUMS = b"adf_serve: the data blocks of this FFS disk have no checksums: 'whole' means that every pointer and header is right\n"
+# Why entries are doubtful or cut short.
+REASONS = {
+    "header": "its header has a wrong checksum or too long a comment",
+    "blocks": "a block of it has a wrong checksum or field, or is in another file too",
+    "gone": "its header is gone, and it is made of the data blocks that name it",
+    "cut": "incomplete files may have at most four times the bytes of the image in all",
+}
 # What stands on standard error before the numbers of the blocks that are used and belong to nothing.
 HEADING = b"adf_serve: blocks in use that belong to no reported entry:\n"
 
@@ -74,6 +81,15 @@ class Entry(NamedTuple):
 
     def line(self) -> str:
         return " ".join([*["found"] * self.found, *[self.state] * bool(self.state), self.path])
+
+
+class Hole(NamedTuple):
+    """A run of data blocks that are missing: the bytes of the file in them, and their numbers."""
+
+    first: int
+    last: int
+    first_data: int
+    last_data: int
 
 
 class Blocks(NamedTuple):
@@ -188,8 +204,10 @@ class Bitmap:
         self.is_trusted = sound and root and disk.long(disk.root, 78) == ALL_ONES and not any(self.is_free(it) for it in reached)
 
     def is_free(self, block: int) -> bool:
-        if self.disk.long(self.disk.root, 78) != ALL_ONES:
-            return True
+        return self.disk.long(self.disk.root, 78) != ALL_ONES or self.marks_free(block)
+
+    def marks_free(self, block: int) -> bool:
+        """Whether its bit is set, whether the bitmap can be trusted or not."""
         page = self.pages[(block - 2) // 4064]
         return page in self.disk.inside and bool(self.disk.long(page, 1 + (block - 2) % 4064 // 32) >> (block - 2) % 32 & 1)
 
@@ -284,6 +302,7 @@ class Account(Disk):
         self.bytes: Dict[int, bytes] = {}
         self.left = 4 * len(self.data)
         self.cut: Set[int] = set()
+        self.numbers: Dict[int, Tuple[Set[int], int]] = {}
         self.loose: Dict[int, Dict[int, int]] = {}
         self.lists: Dict[int, List[Tuple[int, int]]] = {}
         self.passed: Set[int] = set()
@@ -434,6 +453,7 @@ class Account(Disk):
     def broken_state(self, file: int) -> str:
         """The state of a file that is not whole; keeps its bytes."""
         needed, there = self.give(file)
+        self.numbers[file] = (set(there), needed)
         size = min(self.long(file, 81), self.blocks * self.room)
         end = min(size, self.room * (max(there) + 1)) if there else 0
         kept = min(end, self.left)
@@ -545,7 +565,9 @@ class Account(Disk):
         self.keep(header, there, kept)
         if kept < end:
             self.cut.add(header)
-        return f"broken {needed - len(there) + (self.long(self.lists[header][-1][1], 126) != 0)}"
+        needed += self.long(self.lists[header][-1][1], 126) != 0
+        self.numbers[header] = (set(there), needed)
+        return f"broken {needed - len(there)}"
 
     def loose_blocks(self) -> Dict[int, Dict[int, int]]:
         """The OFS data blocks with right checksums that name a header which is not told, by that header and by their numbers; of one
@@ -572,8 +594,50 @@ class Account(Disk):
         self.given.update({it: header for it in there.values()})
         if kept < end:
             self.cut.add(header)
-        missing = last - len(there) + (self.long(there[last], 4) != 0)
+        needed = last + (self.long(there[last], 4) != 0)
+        self.numbers[header] = ({number - 1 for number in there}, needed)
+        missing = needed - len(there)
         return f"broken {missing}" if missing or kept < end else "doubtful"
+
+    def holes_in(self, file: int) -> List[Hole]:
+        """The runs of data blocks that are missing in a file."""
+        there, needed = self.numbers.get(file, (set(), 0))
+        edges = [-1, *sorted(it for it in there if it < needed), needed]
+        return [self.hole(file, before + 1, after - 1) for before, after in zip(edges, edges[1:]) if before + 1 < after]
+
+    def hole(self, file: int, first: int, last: int) -> Hole:
+        """A run of data blocks with the bytes of the file in it. The last block of a file has the bytes that its size says."""
+        end = self.room * (last + 1)
+        if file < self.blocks and [self.long(file, it) for it in (0, 1, 127)] == [HEADER, file, FILE]:
+            size = self.long(file, 81)
+            end = size if self.room * last < size < end else end
+        return Hole(self.room * first, end - 1, first, last)
+
+    def reason(self, it: Entry) -> Optional[str]:
+        """Why an entry is doubtful or cut short."""
+        if it.header in self.cut:
+            return REASONS["cut"]
+        if it.state != "doubtful":
+            return None
+        if it.header not in self.told:
+            return REASONS["gone"]
+        return REASONS["blocks" if it.header in self.sound else "header"]
+
+    def is_deleted_but_for_trust(self, it: Entry) -> bool:
+        """Whether a found entry would be a deleted one if the bitmap could be trusted."""
+        return not self.bitmap.is_trusted and it.found and it.header in self.sound and self.bitmap.marks_free(it.header)
+
+    def texts(self) -> List[bytes]:
+        """The lines of standard error about entries, after `lines`: why they are doubtful or cut short, and what is missing."""
+        texts = []
+        for it in self.told_entries:
+            reason, holes = self.reason(it), self.holes_in(it.header)
+            path = it.path.removesuffix("/") if it.state == "doubtful" else it.path
+            if reason:
+                texts.append(f"adf_serve: '{path}' is {'cut short' if it.header in self.cut else 'doubtful'}: {reason}")
+            if holes:
+                texts.append(f"adf_serve: '{path}': {missing_words(holes)}")
+        return [it.encode() for it in texts]
 
     def is_told_directory(self, block: int) -> bool:
         return block in self.told and self.is_directory(block)
@@ -610,9 +674,12 @@ class Account(Disk):
             if it.found or it.state:
                 state, _, missing = (it.state or "whole").partition(" ")
                 path = it.path + "/" * (not it.state)
-                entries.append({"path": path, "state": state, "found": it.found, "missing": int(missing or 0), "cut": it.header in self.cut})
-        told = {"entries": entries, "deleted": len(self.deleted), "unaccounted": self.rest, "summed": self.ofs}
-        return json.dumps(told, ensure_ascii=False, separators=(",", ":")).encode() + b"\n"
+                told = {"path": path, "state": state, "found": it.found, "missing": int(missing or 0), "cut": it.header in self.cut}
+                size = len(self.bytes[it.header]) if it.header in self.bytes else None
+                more = {"header": it.header, "size": size, "reason": self.reason(it), "deleted": self.is_deleted_but_for_trust(it)}
+                entries.append({**told, **more, "holes": [hole._asdict() for hole in self.holes_in(it.header)]})
+        report = {"entries": entries, "deleted": len(self.deleted), "unaccounted": self.rest, "summed": self.ofs}
+        return json.dumps(report, ensure_ascii=False, separators=(",", ":")).encode() + b"\n"
 
     def unaccounted(self, entries: List[Entry]) -> List[int]:
         """The blocks that are used and belong to nothing. A whole file has all its blocks; another one those that are written, and the
@@ -710,6 +777,21 @@ class Walk:
                 self.found.add(block)
 
 
+def listed_words(words: List[str]) -> str:
+    return " and ".join([*[", ".join(words[:-1])] * (len(words) > 1), words[-1]])
+
+
+def missing_words(holes: List[Hole]) -> str:
+    """What standard error says of the missing parts of a file."""
+    spans = [f"{it.first}" if it.first == it.last else f"{it.first} to {it.last}" for it in holes]
+    numbers: List[str] = []
+    for it in holes:
+        ends = sorted({it.first_data, it.last_data})
+        numbers += [f"{end}" for end in ends] if it.last_data - it.first_data < 2 else [f"{it.first_data} to {it.last_data}"]
+    what, are = ("byte", "is") if spans[0].isdigit() and len(spans) == 1 else ("bytes", "are")
+    return f"{what} {listed_words(spans)} {are} missing (data {listed_words(numbers)})"
+
+
 def account_of(data: bytes, rules: Rules = NOW) -> Tuple[int, List[str], List[int]]:
     """The exit status of `extract --damaged`, its lines, and the blocks that are used and belong to nothing."""
     account = Account(data, rules)
@@ -732,10 +814,15 @@ def rest_told(texts: bytes) -> bytes:
     return b"".join(texts.partition(HEADING)[1:])
 
 
-def doubts_told(texts: bytes) -> List[bytes]:
+def texts_told(texts: bytes) -> List[bytes]:
     """The lines of standard error before these blocks, but for those about checksums and about the kind of the disk: those about files."""
     lines = texts.partition(HEADING)[0].replace(NO_SUMS, b"", 1).splitlines()
     return [it for it in lines if not it.startswith(b"adf_serve: read as ")]
+
+
+def doubts_told(texts: bytes) -> List[bytes]:
+    """Those of them that do not say which bytes are missing."""
+    return [it for it in texts_told(texts) if not it.endswith(b")") or b" missing (data " not in it]
 
 
 def main(words: List[str]) -> int:

@@ -23,7 +23,7 @@ TESTS, EXAMPLES = TOP / "tests" / "c", TOP / "examples" / "c"
 HEADER = TOP / "bindings/c/jiponuwha.h"
 PACKET, ACTIONS = (TOP / f"crates/ados_model/specs/{it}.antt" for it in ("Packet", "Actions"))
 CALLS, READ_ONLY = (TOP / f"crates/adf_c/specs/{it}.antt" for it in ("Calls", "ReadOnly"))
-FAULTS, STATUS = (TOP / f"crates/c_values/specs/{it}.antt" for it in ("Faults", "Status"))
+FAULTS, STATUS = (TOP / f"crates/adf_c/specs/{it}.antt" for it in ("Faults", "Status"))
 BUILT = TOP / "crates/adf_c/out/libadf_c.a"
 STRICT = ["-Wall", "-Wextra", "-Wpedantic", "-Werror"]
 SANITIZED = ["-fsanitize=address,undefined", "-fno-sanitize-recover=all"]
@@ -42,21 +42,21 @@ DIRECTORY = 2|ados_model/specs/Objects.antt|entry_type (Some dir) (Directory key
 FILE = -3|ados_model/specs/Objects.antt|entry_type (Some dir) (File bytes) = negsuc 2
 VALIDATED = 82|ados_model/specs/Objects.antt|state = 82;
 WRITE_PROTECTED = 80|adf_c/specs/ReadOnly.antt|protected_body (Disk info) = Disk (record info { state = 80 })
-ROLE_FREE = 0|c_values/specs/Owners.antt|told_owner block Free = record { role = 0; header = 0; index = 0 }
-ROLE_BOOT = 1|c_values/specs/Owners.antt|told_owner block Boot = record { role = 1; header = 0; index = 0 }
-ROLE_ROOT = 2|c_values/specs/Owners.antt|told_owner block Root = record { role = 2; header = block; index = 0 }
-ROLE_BITMAP = 3|c_values/specs/Owners.antt|told_owner block (Page i) = record { role = 3; header = 0; index = i }
-ROLE_DIRECTORY = 4|c_values/specs/Owners.antt|told_owner block Directory = record { role = 4; header = block; index = 0 }
-ROLE_FILE = 5|c_values/specs/Owners.antt|told_owner block File = record { role = 5; header = block; index = 0 }
-ROLE_EXTENSION = 6|c_values/specs/Owners.antt|told_owner block (Extension file k) = record { role = 6; header = file; index = k }
-ROLE_DATA = 7|c_values/specs/Owners.antt|told_owner block (Data file k) = record { role = 7; header = file; index = k }
-ROLE_LOST = 8|c_values/specs/Owners.antt|told_owner block Lost = record { role = 8; header = 0; index = 0 }
-STATE_DIRECTORY = 1|c_values/specs/Salvaged.antt|told_state Directory = 1
-STATE_WHOLE = 2|c_values/specs/Salvaged.antt|told_state Whole = 2
-STATE_BROKEN = 3|c_values/specs/Salvaged.antt|told_state (Broken missing cut size) = 3
-STATE_LOST = 4|c_values/specs/Salvaged.antt|told_state Lost = 4
-STATE_DOUBTFUL = 5|c_values/specs/Salvaged.antt|told_state (Doubtful header size) = 5
-STATE_DOUBTFUL_DIRECTORY = 6|c_values/specs/Salvaged.antt|told_state DoubtfulDirectory = 6
+ROLE_FREE = 0|adf_c/specs/Owners.antt|told_owner block Free = record { role = 0; header = 0; index = 0 }
+ROLE_BOOT = 1|adf_c/specs/Owners.antt|told_owner block Boot = record { role = 1; header = 0; index = 0 }
+ROLE_ROOT = 2|adf_c/specs/Owners.antt|told_owner block Root = record { role = 2; header = block; index = 0 }
+ROLE_BITMAP = 3|adf_c/specs/Owners.antt|told_owner block (Page i) = record { role = 3; header = 0; index = i }
+ROLE_DIRECTORY = 4|adf_c/specs/Owners.antt|told_owner block Directory = record { role = 4; header = block; index = 0 }
+ROLE_FILE = 5|adf_c/specs/Owners.antt|told_owner block File = record { role = 5; header = block; index = 0 }
+ROLE_EXTENSION = 6|adf_c/specs/Owners.antt|told_owner block (Extension file k) = record { role = 6; header = file; index = k }
+ROLE_DATA = 7|adf_c/specs/Owners.antt|told_owner block (Data file k) = record { role = 7; header = file; index = k }
+ROLE_LOST = 8|adf_c/specs/Owners.antt|told_owner block Lost = record { role = 8; header = 0; index = 0 }
+STATE_DIRECTORY = 1|adf_c/specs/Salvaged.antt|told_state Directory = 1
+STATE_WHOLE = 2|adf_c/specs/Salvaged.antt|told_state Whole = 2
+STATE_BROKEN = 3|adf_c/specs/Salvaged.antt|told_state (Broken missing cut size) = 3
+STATE_LOST = 4|adf_c/specs/Salvaged.antt|told_state Lost = 4
+STATE_DOUBTFUL = 5|adf_c/specs/Salvaged.antt|told_state (Doubtful header size) = 5
+STATE_DOUBTFUL_DIRECTORY = 6|adf_c/specs/Salvaged.antt|told_state DoubtfulDirectory = 6
 NAME_BYTES = 30|ados_name/specs/Name.antt|pub short : length name ≤ 30
 COMMENT_BYTES = 79|ados_name/specs/Name.antt|pub short : length comment ≤ 79
 PATH_BYTES = 255|ados_name/specs/Path.antt|pub short : length path ≤ 255

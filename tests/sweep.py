@@ -37,7 +37,7 @@ from typing import Callable, Dict, Iterator, List, Mapping, NamedTuple, Optional
 sys.dont_write_bytecode = True
 
 from all_faults_model import Model, lines_of
-from disk_model import NO_SUMS, NOW, PAGE, Account, Bitmap, Disk, Headers, Owners, Rules, rest_of, rest_text, rest_told
+from disk_model import NO_SUMS, NOW, PAGE, Account, Bitmap, Disk, Headers, Owners, Rules, rest_of, rest_text, rest_told, texts_told
 from drawn_volume import Drawer
 from fuzz import FEWEST, LARGEST, PER_BASE, Base, Damaged, a_chain, a_name, a_parent, a_pointer, a_size, base_of, damaged, told_of
 from harness import BLOCK, FILE, Image, Ran, Report, Room, host_name, in_memory, processors, program_of
@@ -556,6 +556,8 @@ class Compared:
         assert ran.texts.count(b"' is doubtful: ") == doubts, f"standard error: {ran.texts[:300]!r}"
         assert ran.texts.count(NO_SUMS) == (not account.ofs), f"standard error: {ran.texts[:300]!r}"
         assert lines == wanted, differing(lines, wanted)
+        texts = [it for it in texts_told(ran.texts) if it.startswith(b"adf_serve: '") and b": missing bytes are read as" not in it]
+        assert texts == account.texts(), differing(texts, account.texts())
         rest, wanted_rest = rest_told(ran.texts).splitlines(), rest_text(account.rest).splitlines()
         assert rest == wanted_rest, differing(rest, wanted_rest)
         written = {os.path.relpath(os.path.join(top, name), "out"): Path(top, name).read_bytes() for top, _, names in os.walk("out") for name in names}

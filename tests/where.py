@@ -1,6 +1,7 @@
 #!/usr/bin/env python3
 """Tests the commands `map` and `where` of the built program: the owner of each block, as text and as JSON, the blocks of each
-file and directory, what they refuse, and the places that name the blocks of a refused image, with its map.
+file and directory, what they refuse, the places that name the blocks of a refused image, with its map, and the blocks of a list
+of those that could not be read.
 
     tests/where.py [PROGRAM]
 
@@ -30,6 +31,8 @@ MEANINGS = [
     *(("B", "boot"), ("R", "root"), ("M", "bitmap"), ("D", "directories"), ("F", "file headers"), ("X", "extensions")),
     *(("#", "data"), ("L", "lost"), (".", "free")),
 ]
+# What the letter of a block means that could not be read.
+UNREAD = ("U", "unread")
 SMALLEST = b"""BB......RM......
 
 B boot: 2
@@ -78,14 +81,32 @@ def tracks_of(letters: str, meanings: Sequence[Tuple[str, str]] = MEANINGS) -> b
 
 
 def page_of(letters: str, meanings: Sequence[Tuple[str, str]] = MEANINGS) -> bytes:
-    """The map as text: that of a floppy has a column for each cylinder."""
+    """The map as text: that of a floppy has a column for each cylinder. The letter of unread blocks has a line of its own."""
     if len(letters) not in (1760, 3520):
         return tracks_of(letters, meanings)
     size = len(letters) // 80
     cylinders = [letters[at : at + size] for at in range(0, len(letters), size)]
     lines = ["".join(column[at] for column in cylinders) for at in range(size)]
     counts = [f"{mark} {what} {letters.count(mark):,}" for mark, what in meanings]
-    return "".join(f"{it}\n" for it in [*lines, "  ".join(counts[:5]), "  ".join(counts[5:])]).encode()
+    ends = len(counts) - (UNREAD in meanings)
+    return "".join(f"{it}\n" for it in [*lines, "  ".join(counts[:5]), "  ".join(counts[5:ends]), *counts[ends:]]).encode()
+
+
+def bad_list(room: Room, blocks: int, chance: random.Random) -> Set[int]:
+    """Some blocks, and a list of them: each by its number or by its place."""
+    places = places_of(blocks)
+    bad = {chance.randrange(blocks) for _ in range(chance.choice((0, 1, 9, blocks)))}
+    lines = [str(it) if chance.random() < 0.5 else "c{}.h{}.s{}".format(*places[it]) for it in sorted(bad)]
+    room.write("bad.txt", "".join(f"{it} # bad\n" for it in ["", *lines]).encode())
+    return bad
+
+
+def fault_of_map(room: Room, options: List[str], letters: str, headers: List[Optional[int]], meanings: Sequence[Tuple[str, str]]) -> Optional[str]:
+    """What is wrong with the map of an accepted image, in each form."""
+    line = json.dumps({"map": letters, "headers": headers}, separators=(",", ":")).encode() + b"\n"
+    fault = fault_of(room.run("map", *options, "drawn.adf"), 0, page_of(letters, meanings))
+    fault = fault or fault_of(room.run("map", "--json", *options, "drawn.adf"), 0, line)
+    return fault or fault_of(room.run("map", "--tracks", *options, "drawn.adf"), 0, tracks_of(letters, meanings))
 
 
 def fault_of_maps(room: Room, seed: int) -> Optional[str]:
@@ -93,10 +114,10 @@ def fault_of_maps(room: Room, seed: int) -> Optional[str]:
     room.write("drawn.adf", bytes(disk.data))
     blocks = range(len(disk.data) // BLOCK)
     letters = "".join(disk.letter(it) for it in blocks)
-    wanted = {"map": letters, "headers": [disk.headers.get(it) for it in blocks]}
-    line = json.dumps(wanted, separators=(",", ":")).encode() + b"\n"
-    fault = fault_of(room.run("map", "drawn.adf"), 0, page_of(letters)) or fault_of(room.run("map", "--json", "drawn.adf"), 0, line)
-    fault = fault or fault_of(room.run("map", "--tracks", "drawn.adf"), 0, tracks_of(letters))
+    headers = [disk.headers.get(it) for it in blocks]
+    bad = bad_list(room, len(blocks), random.Random(seed))
+    marked = "".join("U" if it in bad else letters[it] for it in blocks)
+    fault = fault_of_map(room, [], letters, headers, MEANINGS) or fault_of_map(room, ["--bad", "bad.txt"], marked, headers, [*MEANINGS, UNREAD])
     return fault or (None if room.content("drawn.adf") == bytes(disk.data) else "the image changed")
 
 
@@ -198,18 +219,26 @@ def words_of(owned: Owned) -> str:
     }[owned.owner]
 
 
-def lines_of(image: Reading, places: List[Place], asked: List[int]) -> bytes:
-    """The text for these blocks."""
+def lines_of(image: Reading, places: List[Place], asked: List[int], bad: Optional[Set[int]] = None) -> bytes:
+    """The text for these blocks, of which some could not be read."""
     lines = []
     for it in asked:
         cylinder, head, sector = places[it]
         lines.append(f"{it}  cyl {cylinder} head {head} sector {sector}  {words_of(image.owned(it))}\n")
+        lines += [f"{it}  unread\n"] * (it in (bad or ()))
     return "".join(lines).encode()
 
 
-def objects_of(image: Reading, places: List[Place], asked: List[int]) -> object:
-    """The objects for these blocks."""
-    return [{**dict(zip(("block", "cylinder", "head", "sector"), (it, *places[it]))), **image.owned(it)._asdict()} for it in asked]
+def objects_of(image: Reading, places: List[Place], asked: List[int], bad: Optional[Set[int]] = None) -> object:
+    """The objects for these blocks, of which some could not be read."""
+    return [
+        {**dict(zip(("block", "cylinder", "head", "sector"), (it, *places[it]))), **image.owned(it)._asdict(), **unread_of(it, bad)} for it in asked
+    ]
+
+
+def unread_of(block: int, bad: Optional[Set[int]]) -> Dict[str, bool]:
+    """The member that says whether a block could not be read, if there is a list of such blocks."""
+    return {} if bad is None else {"unread": block in bad}
 
 
 # ---- what names a block of a refused image
@@ -227,8 +256,8 @@ def words_of_place(named: Named) -> str:
     }[named.role]
 
 
-def placed_lines(model: Owners, places: List[Place], asked: List[int]) -> bytes:
-    """The text for these blocks of a refused image, after the line of the refusal."""
+def placed_lines(model: Owners, places: List[Place], asked: List[int], bad: Optional[Set[int]] = None) -> bytes:
+    """The text for these blocks of a refused image, after the line of the refusal; some could not be read."""
     lines = []
     for it in asked:
         cylinder, head, sector = places[it]
@@ -237,14 +266,15 @@ def placed_lines(model: Owners, places: List[Place], asked: List[int]) -> bytes:
         for said in fixed + words or ["named by nothing"]:
             lines.append(f"{it}  cyl {cylinder} head {head} sector {sector}  {said}\n")
         lines += [f"{it}  fault {kind}\n" for kind in model.faults_of(it)]
+        lines += [f"{it}  unread\n"] * (it in (bad or ()))
     return "".join(lines).encode()
 
 
-def placed_objects(model: Owners, places: List[Place], asked: List[int]) -> object:
-    """The objects for these blocks."""
+def placed_objects(model: Owners, places: List[Place], asked: List[int], bad: Optional[Set[int]] = None) -> object:
+    """The objects for these blocks, of which some could not be read."""
     named = {it: [{"block": one.holder, "long": one.at, "role": one.role} for one in model.named_by(it)] for it in asked}
     return [
-        {**dict(zip(("block", "cylinder", "head", "sector"), (it, *places[it]))), "places": named[it], "faults": model.faults_of(it), "more": False}
+        {**dict(zip(("block", "cylinder", "head", "sector"), (it, *places[it]))), "places": named[it], "faults": model.faults_of(it), "more": False, **unread_of(it, bad)}
         for it in asked
     ]
 
@@ -269,21 +299,23 @@ def refused_letter(model: Owners, block: int) -> str:
     return "." if 2 <= page < model.blocks and model.long(page, 1 + bit // 32) >> bit % 32 & 1 else "L"
 
 
-def fault_of_refused_map(room: Room, name: str, model: Owners) -> Optional[str]:
-    """What is wrong with the map of a refused image, in each form. An image that is none of this file system has no map."""
+def fault_of_refused_map(room: Room, name: str, model: Owners, bad: Optional[Set[int]] = None) -> Optional[str]:
+    """What is wrong with the map of a refused image, in each form; some blocks could not be read. An image that is none of this file
+    system has no map."""
+    options, meanings = ([], REFUSED_MEANINGS) if bad is None else (["--bad", "bad.txt"], [*REFUSED_MEANINGS, UNREAD])
     refused = room.run("check", name).output
     _, kind, at = refused.split()
     told: Dict[str, object] = {"refused": {"kind": kind.decode(), "block": int(at)}}
     page = tracks = b""
     if kind not in (b"NotADosDisk", b"UnsupportedKind"):
-        letters = "".join(refused_letter(model, it) for it in range(model.blocks))
+        letters = "".join("U" if it in (bad or ()) else refused_letter(model, it) for it in range(model.blocks))
         told.update({"map": letters, "more": False})
-        page, tracks = page_of(letters, REFUSED_MEANINGS), tracks_of(letters, REFUSED_MEANINGS)
-    ran = room.run("map", "--json", name)
+        page, tracks = page_of(letters, meanings), tracks_of(letters, meanings)
+    ran = room.run("map", "--json", *options, name)
     fault = None if ran.status == 3 else f"status {ran.status}"
     fault = fault or fault_of_json(ran.output, told)
-    fault = fault or fault_of(room.run("map", name), 3, refused + page, " blocks\n")
-    return fault or fault_of(room.run("map", "--tracks", name), 3, refused + tracks, " blocks\n")
+    fault = fault or fault_of(room.run("map", *options, name), 3, refused + page, " blocks\n")
+    return fault or fault_of(room.run("map", "--tracks", *options, name), 3, refused + tracks, " blocks\n")
 
 
 def fault_of_places(room: Room, name: str, chance: random.Random) -> Optional[str]:
@@ -296,12 +328,15 @@ def fault_of_places(room: Room, name: str, chance: random.Random) -> Optional[st
     chance.shuffle(asked)
     words = [str(it) if chance.random() < 0.5 else "c{}.h{}.s{}".format(*places[it]) for it in asked]
     refused = room.run("check", name).output
-    fault = fault_of(room.run("where", name, *words), 3, refused + placed_lines(model, places, asked), " blocks\n")
-    _, kind, at = refused.split()
-    wanted = {"refused": {"kind": kind.decode(), "block": int(at)}, "blocks": placed_objects(model, places, asked)}
-    ran = room.run("where", "--json", name, *words)
-    fault = fault or (None if ran.status == 3 else f"status {ran.status}") or fault_of_json(ran.output, wanted)
-    fault = fault or fault_of_refused_map(room, name, model)
+    fault = None
+    for bad in (None, bad_list(room, model.blocks, chance)):
+        options = [] if bad is None else ["--bad", "bad.txt"]
+        fault = fault or fault_of(room.run("where", *options, name, *words), 3, refused + placed_lines(model, places, asked, bad), " blocks\n")
+        _, kind, at = refused.split()
+        wanted = {"refused": {"kind": kind.decode(), "block": int(at)}, "blocks": placed_objects(model, places, asked, bad)}
+        ran = room.run("where", "--json", *options, name, *words)
+        fault = fault or (None if ran.status == 3 else f"status {ran.status}") or fault_of_json(ran.output, wanted)
+        fault = fault or fault_of_refused_map(room, name, model, bad)
     return fault or (None if room.content(name) == data else "the image changed")
 
 
@@ -352,9 +387,12 @@ def fault_of_blocks(room: Room, name: str, chance: random.Random, most: int = 9_
     asked += [image.blocks - 1, *image.own]
     chance.shuffle(asked)
     words = [str(it) if chance.random() < 0.5 else "c{}.h{}.s{}".format(*places[it]) for it in asked]
-    fault = fault_of(room.run("where", name, *words), 0, lines_of(image, places, asked))
-    ran = room.run("where", "--json", name, *words)
-    fault = fault or fault_of(ran, 0, None) or fault_of_json(ran.output, objects_of(image, places, asked))
+    fault = None
+    for bad in (None, bad_list(room, image.blocks, chance)):
+        options = [] if bad is None else ["--bad", "bad.txt"]
+        fault = fault or fault_of(room.run("where", *options, name, *words), 0, lines_of(image, places, asked, bad))
+        ran = room.run("where", "--json", *options, name, *words)
+        fault = fault or fault_of(ran, 0, None) or fault_of_json(ran.output, objects_of(image, places, asked, bad))
     for key in chance.sample(sorted(image.own), min(20, len(image.own))):
         path = "" if key == image.root else image.path(key)
         if not {"\0"} & set(path):
@@ -457,6 +495,8 @@ def wrong_blocks(room: Room) -> None:
         room.report.check(f"no block {word}", room.run("where", "plain.adf", "880", word), 3, b"", fault)
         room.report.check(f"no object of block {word}", room.run("where", "--json", "plain.adf", "880", word, "1"), 3, b"", fault)
     room.report.check("no block is named", room.run("where", "plain.adf"), 1, b"", "BLOCK")
+    room.write("bad.txt", b"880\n")
+    room.report.check("a path and a list of bad blocks", room.run("where", "--path", "", "--bad", "bad.txt", "plain.adf"), 1, b"", "--bad")
     room.report.check("a path and a block", room.run("where", "--path", "c", "plain.adf", "880"), 1, b"", "--path")
     room.report.check("a path that leads nowhere", room.run("where", "--path", "c", "plain.adf"), 3, b"refused 205 c\n", "c")
     object = b'{"refused":{"number":205,"path":"c"}}\n'
@@ -499,8 +539,40 @@ def other_images(room: Room) -> None:
     room.report.check("two images", room.run("map", "small.adf", "small.adf"), 1, b"", "small.adf")
 
 
+def unread_blocks(room: Room) -> None:
+    """Blocks that could not be read, by hand: of a volume of 16 blocks, and of the same one with a wrong checksum."""
+    room.done("blank", "--blocks", "16", "Small", "small.adf")
+    data = bytearray(room.content("small.adf"))
+    data[8 * BLOCK + 5] ^= 1
+    room.write("hurt.adf", bytes(data))
+    room.write("bad.txt", b"# by Greaseweazle\n 9\nc0.h1.s0\n\n")
+    page = SMALLEST.replace(b"RM.....", b"RU.U...").replace(b"bitmap: 1", b"bitmap: 0").replace(b"free: 12", b"free: 11")
+    room.succeeds("a map of unread blocks", "map", "--bad", "bad.txt", "small.adf", output=page + b"U unread: 2\n")
+    page = page.replace(b"......RU", b"......!U").replace(b"root: 1", b"root: 0") + b"! faulty: 1\n? shared: 0\nU unread: 2\n"
+    room.report.check("and of a refused image", room.run("map", "--bad", "bad.txt", "hurt.adf"), 3, b"refused BadSum 8\n" + page, "its checksum is wrong")
+    room.write("none.txt")
+    room.succeeds("an empty list", "map", "--bad", "none.txt", "small.adf", output=SMALLEST + b"U unread: 0\n")
+    lines = b"9  cyl 0 head 0 sector 9  bitmap block 0\n9  unread\n8  cyl 0 head 0 sector 8  root\n11  cyl 0 head 1 sector 0  free\n11  unread\n"
+    room.succeeds("where unread blocks are", "where", "--bad", "bad.txt", "small.adf", "9", "8", "c0.h1.s0", output=lines)
+    room.succeeds("where an empty list is", "where", "--bad", "none.txt", "small.adf", "8", output=b"8  cyl 0 head 0 sector 8  root\n")
+    object = b'[{"block":8,"cylinder":0,"head":0,"sector":8,"owner":"root","path":null,"number":null,"first":null,"last":null,"unread":false}]\n'
+    room.succeeds("where an empty list is, as JSON", "where", "--json", "--bad", "none.txt", "small.adf", "8", output=object)
+    lines = b"refused BadSum 8\n8  cyl 0 head 0 sector 8  root\n8  fault BadSum\n11  cyl 0 head 1 sector 0  named by nothing\n11  unread\n"
+    room.report.check("where unread blocks of a refused image are", room.run("where", "--bad", "bad.txt", "hurt.adf", "8", "11"), 3, lines, "its checksum is wrong")
+    for image in ("small.adf", "hurt.adf"):
+        for line in ("x", "16", "c0.h0.s11", "3 4"):
+            room.write("wrong.txt", f"5\n{line}\n".encode())
+            said = "'wrong.txt', line 2: the number of one of the image's 16 blocks is expected"
+            for words in (["map", "--bad", "wrong.txt", image], ["map", "--json", "--bad", "wrong.txt", image], ["where", "--bad", "wrong.txt", image, "8"], ["where", "--bad", "wrong.txt", image, "99"]):
+                room.report.check(f"{' '.join(words)}: {line}", room.run(*words), 2, b"", said)
+        room.write("long.txt", bytes(4_194_305))
+        for words in (["map", "--bad", "{}", image], ["where", "--json", "--bad", "{}", image, "8"]):
+            for list, fault in (("missing.txt", "cannot read 'missing.txt'"), ("long.txt", "'long.txt' has more than 4,194,304 bytes")):
+                room.report.check(f"{words[0]} --bad {list} of {image}", room.run(*(it.format(list) for it in words)), 2, b"", fault)
+
+
 def main(words: List[str]) -> int:
-    return try_all(words, Room, drawn_volumes, owners_of_volumes, places_in_volumes, sizes, known_lines, known_maps, known_damage, known_places, wrong_blocks, other_images)
+    return try_all(words, Room, drawn_volumes, owners_of_volumes, places_in_volumes, sizes, known_lines, known_maps, known_damage, known_places, wrong_blocks, other_images, unread_blocks)
 
 
 if __name__ == "__main__":

@@ -45,7 +45,7 @@ ROWS = [
     ("crates/*/README.md", ""),
     # (tables of the library are compared with definitions)
     ("crates/*/specs/*", "library"),
-    ("crates/adf_words/src/*", "shared"),
+    ("crates/adf_cli/src/*", "shared"),
     ("crates.txt", EVERYTHING),
     ("HANDLES", EVERYTHING),
     ("test", EVERYTHING),

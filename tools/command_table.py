@@ -1,4 +1,4 @@
-"""Reads the table of commands of the program, crates/adf_words/src/table.rt, from which its help is made. The manual page and the
+"""Reads the table of commands of the program, crates/adf_cli/src/table.rt, from which its help is made. The manual page and the
 completions are made from the same rows. Reads its table of other tools' words too.
 """
 from __future__ import annotations
@@ -7,7 +7,7 @@ import re
 from pathlib import Path
 from typing import Dict, Iterator, List, NamedTuple, Optional, Tuple, Union
 
-TABLE = Path(__file__).resolve().parent.parent / "crates/adf_words/src/table.rt"
+TABLE = Path(__file__).resolve().parent.parent / "crates/adf_cli/src/table.rt"
 GROUPS = TABLE.with_name("group.rt")
 OTHER_WORDS = TABLE.with_name("other_words.rt")
 TOKEN = re.compile(r'"(?:[^"\\]|\\.)*"|[A-Za-z_][A-Za-z0-9_]*(?:::[A-Za-z_][A-Za-z0-9_]*)*|[&\[\]{}(),:]')

@@ -7,8 +7,8 @@
 At its end a page lists the definitions that its clauses cite, and those of its crate that clauses of any page stand on through
 others. Each has the checksum of its text, without comments, so that a change of it shows in the page.
 
-A public call is a function that the crate's lib.rt or main.rt exports by `pub use` or `pub mod`, a method of an exported type,
-or a member of an exported trait. The sources must have the layout of rustfmt: items of a file begin in the first
+A public call is a function that the crate's lib.rt or main.rt exports by `pub use` or `pub mod`, also through a module with files
+of its own, a method of an exported type, or a member of an exported trait. The sources must have the layout of rustfmt: items of a file begin in the first
 column, and members of an `impl` or a trait in the fifth.
 """
 from __future__ import annotations
@@ -73,6 +73,10 @@ def exports_of(root: Path) -> Exports:
             found.names += names
         else:
             found.passed_on.setdefault(module, []).extend(names)
+    for module in sorted(found.modules):
+        inner = USE.findall(re.sub(r"//[^\n]*", "", (root.parent / f"{module}.rt").read_text()))
+        for _, one, several in (it for it in inner if (root.parent / module / f"{it[0]}.rt").is_file()):
+            found.names += [name.strip() for name in (one or several).split(",") if name.strip() not in ("", *found.names)]
     for file in [root, *(root.parent / f"{module}.rt" for module in sorted(found.modules))]:
         found.names += [name for name in TYPE.findall(file.read_text()) if name not in found.names]
     return found
@@ -126,9 +130,9 @@ def ghosts_of(lines: list[str], at: int) -> str:
     return ""
 
 
-def calls_of(file: Path, exports: Exports) -> list[Call]:
-    """Returns the public calls in a file."""
-    text = file.read_text()
+def calls_of(src: Path, file: Path, exports: Exports) -> list[Call]:
+    """Returns the public calls in a file below a folder of sources."""
+    text, place = file.read_text(), str(file.relative_to(src))
     lines = text.split("\n")
     starts = [0]
     for line in lines:
@@ -145,7 +149,7 @@ def calls_of(file: Path, exports: Exports) -> list[Call]:
             inner = "\n".join(it for it in text[starts[at] :].partition("\n}")[0].split("\n") if it.startswith("    ghost use "))
             ghosts = ghosts_of(lines, at) if is_trait and owner else ""
             if ghosts:
-                calls.append(Call(owner, f"trait {owner}", file.name, doc_above(lines, at), ghosts, f"{outer}\n{inner}"))
+                calls.append(Call(owner, f"trait {owner}", place, doc_above(lines, at), ghosts, f"{outer}\n{inner}"))
         call = CALL.match(line)
         if not call:
             continue
@@ -155,7 +159,7 @@ def calls_of(file: Path, exports: Exports) -> list[Call]:
             head = text[starts[at] : end_of_head(text, starts[at])].rstrip()
             head = "\n".join(part[indent:] for part in head.split("\n"))
             whose = owner if indent else name
-            calls.append(Call(whose, f"{owner}::{name}" if indent else name, file.name, doc_above(lines, at), head, f"{outer}\n{inner}"))
+            calls.append(Call(whose, f"{owner}::{name}" if indent else name, place, doc_above(lines, at), head, f"{outer}\n{inner}"))
     return calls
 
 
@@ -171,7 +175,7 @@ class Crate:
     def read(path: Path) -> Crate:
         root = path / "src/lib.rt" if (path / "src/lib.rt").is_file() else path / "src/main.rt"
         exports = exports_of(root)
-        calls = [call for file in sorted((path / "src").glob("*.rt")) for call in calls_of(file, exports)]
+        calls = [call for file in sorted((path / "src").rglob("*.rt")) for call in calls_of(path / "src", file, exports)]
         order = {name: at for at, name in enumerate(exports.names)}
         return Crate(path, exports, sorted(calls, key=lambda call: order.get(call.owner, len(order))))
 

@@ -38,13 +38,13 @@ PARTS = [
         "Lines of scripts",
         "They begin with `adf_serve:` and name the line.",
         "3",
-        {"adf_words/faulty_line": [ARMS, CONSTANTS]},
+        {"adf_cli/faulty_line": [ARMS, CONSTANTS]},
     ),
     Part(
         "The command line",
         "They begin with `error:`, and nothing was done. Others that do so name a wrong argument, and show how the command is used.",
         "1",
-        {"adf_words": [FORMAT]},
+        {"adf_cli": [FORMAT]},
     ),
     Part(
         "Commands",
@@ -52,16 +52,17 @@ PARTS = [
         "2",
         {"adf_serve": [ARMS, CONSTANTS]},
     ),
-    Part("Errors of AmigaDOS", "Standard output has `refused NUMBER PATH`.", "3", {"adf_words/refused": [ARMS]}),
-    Part("Changes and entries", "They may end a text that names the file.", "2", {"adf_import": [], "adf_export": [], "adf_rescue": [], "adf_where": [], "adf_record/*fault*": [], "ados_mend": []}),
-    Part("Files of the host", "They end a text that names the file.", "2", {"adf_host": [], "host_trees": []}),
+    Part("Errors of AmigaDOS", "Standard output has `refused NUMBER PATH`.", "3", {"adf_cli/refused": [ARMS]}),
+    Part("Changes and entries", "They may end a text that names the file.", "2", {"adf_import": [], "adf_export": [], "adf_rescue": [], "adf_rescue/doubt": [CONSTANTS], "adf_rescue/missing_text": [FORMAT], "adf_where": [], "adf_record/*fault*": [], "ados_validate": []}),
+    Part("Files of the host", "They end a text that names the file.", "2", {"adf_host": [], "adf_host/trees/*": []}),
     Part("Checked images", "They end a text that names the image.", "2", {"adf_archive": [FORMAT]}),
     Part("Faults of images", "They end a text that names the block and the path.", "3", {"ados_faults": [FORMAT, WHOLE, ARMS, CONSTANTS]}),
 ]
 
 # A pattern of texts, and what to do.
 ADVICE: List[Tuple[str, str]] = [
-    (r"^doubtful: |is \{why\}$", "Compare it with another copy; the files that are `whole` are as they were"),
+    (r"is \{word\}: |^its header |^a block of it has", "Compare it with another copy; the files that are `whole` are as they were"),
+    (r"(is|are) missing \(data|\{missing\}$", "Look for another copy: zeros stand for these bytes"),
     (r"have no checksums", "Look into the files, or compare them with another copy: a wrong byte in one does not show"),
     (r"read as \{read\}", "Nothing: the files are read as those of the kind that the blocks show"),
     (r"missing bytes are read", "Look for a whole copy: what is missing here cannot be saved"),
@@ -132,7 +133,7 @@ ADVICE: List[Tuple[str, str]] = [
     (r"ran out of tries", "Raise `--turns`, or leave the machine less to do"),
     (r"script|line \{number\}", "Correct this line of the script"),
     (r"skipped|note of a file", "Nothing, unless it was to be added"),
-    (r"cut short|not whole", "The other files are whole"),
+    (r"incomplete files may|not whole", "The other files are whole"),
     (r"more files than", "Add fewer files"),
     (r"thread", "Let fewer programs run, or check fewer images at a time with `--jobs`"),
     (r"clock", "Give the date with `--date`"),
@@ -152,7 +153,7 @@ OF_OUTPUT = ("refused {", "suspect block {", "the file at block {", "adf_serve {
 # A pattern of texts, and the exit status that follows, where it is another than that of the part.
 STATUSES: List[Tuple[str, str]] = [
     (r"have no checksums|read as \{read\}|neither OFS|^(OFS|FFS)$", ""),
-    (r"waiting for|turned round|skipped|mounted or being|^doubtful: |is \{why\}$|incomplete files may|belong to no reported|it is a (symbolic|note)|it is neither", ""),
+    (r"waiting for|turned round|skipped|mounted or being|is \{word\}: |^its header |^a block of it has|missing \(data|incomplete files may|belong to no reported|it is a (symbolic|note)|it is neither", ""),
     (r"a volume has 16|past U\+00FF|no byte of an Amiga|is no protection", "1"),
     (r"not a volume name|has no block|1,024 bytes|line \{number\}|the script has more|^expected \{|^(a keyword|each \$k|a text in quotes|a number\b)|^(a|the|each) .*(\$k|text|line|keyword|bytes)$", "3"),
     (r"ok, \{\} refused|of \{\} images$|\{\} left$|^, \{\} refused$|^\{\w*\} (s|min|h)$", ""),

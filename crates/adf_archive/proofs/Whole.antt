@@ -1,7 +1,7 @@
 -- The output for an archive, whole or in part.
 use Rattle.std.proofs.Common.{◌≡◌, ℕ, zero, suc, ◌+◌, ◌<◌, ◌≤◌, Bool, true, false, List, [], length, get_or, All, Option, Result, Ok, Err, IsErrAnd, refl, sym, subst, arith}
 use Rattle.adf_archive.proofs.Common.{nat_lt, All-nil, Shared, FnReturns, Appends, WritesFront, writes_nothing, ImageReport, Form, Tally, Archive, IsDetailOf, TellsArchive, told_in, GivesFrom, told_from, IsReportOfSome, Detail, IsBroken, IsTally, ends, ends_over}
-use Rattle.adf_words.specs.declared.query.CheckJob.{CheckJob}
+use Rattle.adf_cli.specs.declared.query.CheckJob.{CheckJob}
 use Rattle.adf_archive.specs.declared.fault.ArchiveFault.{ArchiveFault}
 use Rattle.adf_archive.specs.declared.fault.ArchiveFault.TheVariants.{Refused, NotChecked, Output, Memory}
 

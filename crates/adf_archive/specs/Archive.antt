@@ -3,7 +3,7 @@ use Rattle.std.specs.Prelude.{◌≡◌, ℕ, ◌≤◌, ◌<◌, true, false, L
 use denote.Param.Members.{Shared}
 use Rattle.std.specs.Io.KnownBytes.{Appends}
 use Rattle.adf_io.specs.Prefix.{WritesFront}
-use Rattle.adf_words.specs.declared.query.CheckJob.{CheckJob}
+use Rattle.adf_cli.specs.declared.query.CheckJob.{CheckJob}
 use Rattle.adf_archive.specs.declared.checking.Detail.{Detail}
 use Rattle.adf_archive.specs.declared.fault.ArchiveFault.{ArchiveFault}
 use Rattle.adf_archive.specs.declared.fault.ArchiveFault.TheVariants.{Output, Memory}

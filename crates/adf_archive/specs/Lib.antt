@@ -4,7 +4,7 @@ pub mod Endings
 pub mod Fillers
 pub mod Paths
 pub mod Suspects
-pub mod Likeness
+pub mod FileTypes
 pub mod Report
 pub mod Lines
 pub mod Objects

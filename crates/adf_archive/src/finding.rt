@@ -4,8 +4,8 @@ ghost use Rattle.adf_archive.specs.Endings.{EndsIn, HasImageEnding};
 
 use crate::found_file::FoundFile;
 use crate::names::{TextName, names_in, text_name};
+use adf_cli::ImageFile;
 use adf_host::read_names;
-use adf_words::ImageFile;
 use std::alloc::{AllocError, Global};
 use std::fs;
 use std::io::ErrorKind;

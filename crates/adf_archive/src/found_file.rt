@@ -1,5 +1,5 @@
 //! A file to check, as it was found.
-use adf_words::ImageFile;
+use adf_cli::ImageFile;
 
 /// A file to check: an argument of a command, or found in the directory that an argument names.
 #[derive(Clone, Copy)]

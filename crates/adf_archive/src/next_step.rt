@@ -2,7 +2,7 @@
 use crate::report::RefusedImage;
 use crate::shell_word::ShellWord;
 use adf_block::BootKind;
-use adf_words::ImageFile;
+use adf_cli::ImageFile;
 use ados_model::FaultKind;
 use std::fmt;
 use std::fmt::{Display, Formatter};

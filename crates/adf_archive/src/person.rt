@@ -1,17 +1,17 @@
 //! What a person is told of images beside the reports.
+use crate::file_type::{FRONT_BYTES, FileType, filling, look_of, other_root, root_in};
 use crate::finding::Remark;
 use crate::found_file::FoundFile;
-use crate::likeness::{FRONT_BYTES, Likeness, filling, look_of, other_root, root_in};
 use crate::next_step::{NextStep, Repair};
 use crate::reading::ReadImages;
 use crate::report::{ImageReport, RefusedImage, ShownFault, WhyNot};
 use crate::telling::Form;
 use adf_block::layout::{BLOCK_BYTES, MOST_BLOCKS};
 use adf_block::{Image, MOST_BYTES, SizeFault};
+use adf_cli::ImageFile;
 use adf_host::input_path;
 use adf_record::Grouped;
 use adf_text::print_line;
-use adf_words::ImageFile;
 use ados_model::FaultKind;
 use std::alloc::Global;
 use std::fmt::{Display, Formatter};
@@ -24,7 +24,7 @@ const BLOCK: u64 = BLOCK_BYTES as u64;
 
 /// How a person is told of images.
 #[derive(Clone, Copy)]
-pub struct Manner<'a> {
+pub struct OutputSettings<'a> {
     /// The form of the reports. With paths, each line begins with the path.
     pub form: Form,
     /// The number of blocks at the start of a file that are its image; by default all of it is.
@@ -36,10 +36,10 @@ pub struct Manner<'a> {
     pub terminal: bool,
 }
 
-impl<'a> Manner<'a> {
+impl<'a> OutputSettings<'a> {
     /// How a person is told of the images from this one on.
-    pub(crate) fn from(self, first: usize) -> Manner<'a> {
-        Manner {
+    pub(crate) fn from(self, first: usize) -> OutputSettings<'a> {
+        OutputSettings {
             tops: self.tops.get(first..).unwrap_or(&[]),
             ..self
         }
@@ -60,13 +60,17 @@ pub(crate) fn tell_person<R: Files + ReadImages, F: Write>(
     alloc: Global,
     paths: &[String],
     reports: &[ImageReport],
-    manner: Manner<'_>,
+    settings: OutputSettings<'_>,
     faults: &mut F,
 ) {
     for (place, (path, report)) in paths.iter().zip(reports).enumerate() {
         let path = path.as_str();
-        let top = manner.tops.get(place).copied().unwrap_or(None);
-        let about = About { path, top, manner };
+        let top = settings.tops.get(place).copied().unwrap_or(None);
+        let about = About {
+            path,
+            top,
+            settings,
+        };
         match report {
             ImageReport::NotChecked(why) => about.tell_unread(rt, alloc, *why, faults),
             ImageReport::WrongSize(fault) => about.tell_size(rt, alloc, *fault, faults),
@@ -170,7 +174,7 @@ pub(crate) struct About<'a> {
     pub(crate) path: &'a str,
     /// The number of bytes of the path that are the argument's directory in which it was found; `None` for an argument.
     pub(crate) top: Option<usize>,
-    pub(crate) manner: Manner<'a>,
+    pub(crate) settings: OutputSettings<'a>,
 }
 
 impl<'a> About<'a> {
@@ -179,7 +183,7 @@ impl<'a> About<'a> {
         FoundFile {
             file: ImageFile {
                 path: self.path,
-                blocks: self.manner.blocks,
+                blocks: self.settings.blocks,
             },
             top: self.top,
         }
@@ -187,7 +191,7 @@ impl<'a> About<'a> {
 
     /// Prints a text on the image, with its path if it is one of several.
     fn tell<F: Write, T: Display + Drop>(self, text: T, faults: &mut F) {
-        if self.manner.form.paths {
+        if self.settings.form.paths {
             print_line(faults, format_args!("{}: {text}", self.path));
         } else {
             print_line(faults, text);
@@ -235,8 +239,8 @@ impl<'a> About<'a> {
         self.tell(WrongLength { fault, length }, faults);
         if let Some(length) = length {
             let front = rt.read_front(alloc, self.found(), most_of(length));
-            if let Some(likeness) = look_of(&front) {
-                self.tell(likeness, faults);
+            if let Some(file_type) = look_of(&front) {
+                self.tell(file_type, faults);
             }
             self.tell_filling(&front, length, faults);
             if front.len() as u64 != length {
@@ -263,20 +267,20 @@ impl<'a> About<'a> {
         told: &RefusedImage,
         faults: &mut F,
     ) {
-        let likeness = self.likeness(rt, alloc, told);
+        let file_type = self.file_type(rt, alloc, told);
         for shown in told.faults.iter() {
-            self.tell_fault(shown, likeness, faults);
+            self.tell_fault(shown, file_type, faults);
         }
         self.tell_rest(rt, alloc, told, faults);
     }
 
     /// What the file of an image that is no AmigaDOS disk looks like, by its first bytes.
-    pub(crate) fn likeness<R: Files + ReadImages>(
+    pub(crate) fn file_type<R: Files + ReadImages>(
         self,
         rt: &R,
         alloc: Global,
         told: &RefusedImage,
-    ) -> Option<Likeness> {
+    ) -> Option<FileType> {
         let is_other = told
             .faults
             .iter()
@@ -291,12 +295,12 @@ impl<'a> About<'a> {
     pub(crate) fn tell_fault<F: Write>(
         self,
         shown: &ShownFault,
-        likeness: Option<Likeness>,
+        file_type: Option<FileType>,
         faults: &mut F,
     ) {
-        match likeness {
-            Some(likeness) if shown.fault.kind == FaultKind::NotADosDisk => {
-                self.tell(likeness, faults);
+        match file_type {
+            Some(file_type) if shown.fault.kind == FaultKind::NotADosDisk => {
+                self.tell(file_type, faults);
             }
             _ => self.tell(shown.text.as_str(), faults),
         }
@@ -334,7 +338,7 @@ impl<'a> About<'a> {
         told: &RefusedImage,
         faults: &mut F,
     ) -> Option<OtherSize> {
-        let About { path, manner, .. } = self;
+        let About { path, settings, .. } = self;
         let may_be_other = told.faults.iter().any(|shown| {
             let fault = shown.fault;
             let is_root = fault.block == told.blocks.div_ceil(2);
@@ -346,7 +350,7 @@ impl<'a> About<'a> {
         let image = rt.read_image(alloc, self.found()).ok()?;
         let length = image.as_bytes().len() as u64;
         self.tell_filling(image.as_bytes(), length, faults);
-        let holder = match manner.blocks {
+        let holder = match settings.blocks {
             Some(_) => "--blocks takes",
             None => "the file has",
         };

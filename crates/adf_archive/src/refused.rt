@@ -2,15 +2,15 @@
 use crate::checking::{Detail, report_file};
 use crate::found_file::FoundFile;
 use crate::next_step::Repair;
-use crate::person::{About, Manner, regular_length};
+use crate::person::{About, OutputSettings, regular_length};
 use crate::reading::ReadImages;
 use crate::report::{ImageReport, RefusedImage, ShownFault};
 use crate::telling::Form;
 use crate::words::{kind_word, size_word};
 use adf_block::{BootKind, SizeFault};
+use adf_cli::ImageFile;
 use adf_record::size_words;
 use adf_text::print_line;
-use adf_words::ImageFile;
 use ados_model::FaultKind;
 use std::alloc::Global;
 use std::io::Write;
@@ -49,7 +49,7 @@ pub fn explain_refused<R: Files + ReadImages, F: Write>(
     let about = About {
         path: file.path,
         top: None,
-        manner: Manner {
+        settings: OutputSettings {
             form: ALONE,
             blocks: file.blocks,
             tops: &[],
@@ -64,9 +64,9 @@ pub fn explain_refused<R: Files + ReadImages, F: Write>(
     match report_file(rt, alloc, found, true, FIRST_FAULT) {
         ImageReport::Refused(told) => {
             tell_size_of(alloc, &told, faults);
-            let likeness = about.likeness(rt, alloc, &told);
+            let file_type = about.file_type(rt, alloc, &told);
             match shown_in(&told, kind, block) {
-                Some(shown) => about.tell_fault(shown, likeness, faults),
+                Some(shown) => about.tell_fault(shown, file_type, faults),
                 // It is not the first fault of the image.
                 None => tell_later_fault(rt, alloc, about, kind, block, faults),
             }

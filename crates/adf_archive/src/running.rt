@@ -10,15 +10,15 @@ use crate::checking::{Detail, report_file};
 use crate::fault::ArchiveFault;
 use crate::finding::{FoundImages, image_files};
 use crate::held::tell_each_held;
-use crate::person::{Manner, tell_person, tell_remarks};
+use crate::person::{OutputSettings, tell_person, tell_remarks};
 use crate::progress::Progress;
 use crate::reading::ReadImages;
 use crate::reasons::Reasons;
 use crate::report::ImageReport;
 use crate::telling::{Form, Tally, tell_reports};
+use adf_cli::CheckJob;
 use adf_host::PromptFiles;
 use adf_text::print_line;
-use adf_words::CheckJob;
 use std::alloc::{AllocError, Global};
 use std::fs::File;
 use std::io::Write;
@@ -68,7 +68,7 @@ where
                 detail,
             )
         },
-        Manner {
+        OutputSettings {
             form,
             blocks: job.blocks,
             tops: found.tops.as_slice(),
@@ -123,7 +123,7 @@ pub fn check_each<R, C, W, F>(
     paths: &[String],
     jobs: usize,
     report: &C,
-    manner: Manner<'_>,
+    settings: OutputSettings<'_>,
     writer: &mut W,
     faults: &mut F,
 ) -> Result<Tally, ArchiveFault>
@@ -133,12 +133,12 @@ where
     W: Write,
     F: Write,
     requires { (i : ℕ) → i < length paths.now → C.pre report.now i }
-    ensures ok { IfOk result (TellsAll C.Fn report.now manner.entry.form (map string_bytes paths.now) (W.contents writer.old) (W.contents writer.new)) }
-    ensures fault { IfErr result (λ _. LeavesOff C.Fn report.now manner.entry.form (map string_bytes paths.now) (W.contents writer.old) (W.contents writer.new)) }
+    ensures ok { IfOk result (TellsAll C.Fn report.now settings.entry.form (map string_bytes paths.now) (W.contents writer.old) (W.contents writer.new)) }
+    ensures fault { IfErr result (λ _. LeavesOff C.Fn report.now settings.entry.form (map string_bytes paths.now) (W.contents writer.old) (W.contents writer.new)) }
     ensures broken { IfErr result IsBroken }
 {
-    let form = manner.form;
-    let progress = Progress::begin(rt, paths.len(), manner.terminal);
+    let form = settings.form;
+    let progress = Progress::begin(rt, paths.len(), settings.terminal);
     let mut tally = Tally::new();
     let mut reasons = Reasons::new();
     let mut done = 0;
@@ -154,7 +154,7 @@ where
             alloc,
             &paths[done..],
             &reports,
-            manner.from(done),
+            settings.from(done),
             faults,
         );
         tally.add(&reports);

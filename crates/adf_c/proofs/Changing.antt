@@ -6,7 +6,7 @@ use Rattle.std.proofs.lemmas.List.FromFn.{filter_of_map_range_with_len_more}
 use Rattle.adf_block.specs.Image.{bytes_at}
 use Rattle.adf_c.specs.Changed.{TakesOver, RefusesTaking, CopiesChanged, RefusesChanged}
 use Rattle.adf_c.specs.declared.desk.Desk.{Desk}
-use Rattle.c_values.specs.declared.refusal.Refusal.{Refusal}
+use Rattle.adf_c.specs.declared.values.refusal.Refusal.{Refusal}
 
 -- the bytes from a block's position are the block's
 pub block_of : (copy : List ℕ) (block : ℕ) → take (block * 512 + 512 - block * 512) (drop (block * 512) copy) ≡ bytes_at copy block 0 512

@@ -12,14 +12,14 @@ use Rattle.ados_model.specs.Blank.{IsBlank}
 use Rattle.ados_model.specs.Session.{opening_session}
 use Rattle.ados_handler.specs.HandlerState.{HandlerState}
 use Rattle.adf_c.specs.Calls.{IsOpen, Seats, Opens, RefusesOpen, Blanks, RefusesBlank, format_number, SpellsFitting, ServedBy, Serves, CopiesBytes, RefusesBytes, CopiesImage, RefusesCopy}
-use Rattle.c_values.specs.Dates.{date_of}
-use Rattle.c_values.specs.Ends.{Comes}
-use Rattle.c_values.specs.declared.answer.JipAnswer.{JipAnswer}
+use Rattle.adf_c.specs.Dates.{date_of}
+use Rattle.adf_c.specs.Ends.{Comes}
+use Rattle.adf_c.specs.declared.values.answer.JipAnswer.{JipAnswer}
 use Rattle.adf_c.specs.declared.desk.Desk.{Desk}
-use Rattle.c_values.specs.declared.faults.JipFault.{JipFault}
+use Rattle.adf_c.specs.declared.values.faults.JipFault.{JipFault}
 use Rattle.adf_c.specs.declared.packet.JipPacket.{JipPacket}
-use Rattle.c_values.specs.declared.refusal.Refusal.{Refusal}
-use Rattle.c_values.specs.declared.refusal.Refusal.TheVariants.{NoMemory}
+use Rattle.adf_c.specs.declared.values.refusal.Refusal.{Refusal}
+use Rattle.adf_c.specs.declared.values.refusal.Refusal.TheVariants.{NoMemory}
 
 -- a handle is open if it has a desk
 pub some_is_open : (held : Option Desk) → is_some held ≡ true → IsOpen held

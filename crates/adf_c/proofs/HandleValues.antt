@@ -29,7 +29,7 @@ use Rattle.std_alloc.proofs.SendSync.{lies}
 use Rattle.std.specs.contracts.alloc.Global as heap
 use Rattle.std_alloc.proofs.ResultValues.{and_tt}
 use Rattle.adf_c.specs.Holding.{holds}
-use Rattle.adf_c.proofs.Values.{both, Z, heap_al}
+use Rattle.adf_c.proofs.LooseValues.{both, Z, heap_al}
 
 -- the pointer, the allocator and what is at the pointer
 abbrev pub Parts : RattleType → Type 0

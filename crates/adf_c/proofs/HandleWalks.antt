@@ -37,7 +37,7 @@ use Rattle.std.specs.contracts.impls.GlobalAllocator.TheImpl.{ghosts}
 use Rattle.std.proofs.alloc.Global.TheLaws as heap_laws
 use Rattle.std.proofs.raw_atomic.Walks.{proved_at, leaves}
 use Rattle.std_alloc.proofs.ResultValues.{and_tt}
-use Rattle.adf_c.proofs.Values.{Loose, both, Z, loose_good, loose_in, loose_out, either_held}
+use Rattle.adf_c.proofs.LooseValues.{Loose, both, Z, loose_good, loose_in, loose_out, either_held}
 use Rattle.adf_c.proofs.HandleValues.{Handle, Parts, row, handle_good, handle_in, handle_out}
 
 abbrev steps : List Body → Body

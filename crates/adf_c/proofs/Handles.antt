@@ -2,7 +2,7 @@
 use Rattle.std.proofs.Common.{refl}
 use Rattle.adf_c.proofs.HandleValues.{Handle}
 use Rattle.adf_c.specs.contracts.desk.Desk as desk
-use Rattle.adf_salvage.specs.contracts.saved.Salvage as saved
+use Rattle.ados_salvage.specs.contracts.saved.Salvage as saved
 use Rattle.adf_c.specs.contracts.handle.JipHandle as jip_handle
 use Rattle.adf_c.specs.contracts.handle.JipSalvage as jip_salvage
 

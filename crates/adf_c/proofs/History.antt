@@ -15,10 +15,10 @@ use Rattle.ados_port.specs.History.{Serving, last_server}
 use Rattle.ados_run.specs.Keeping.{ServesBoth}
 use Rattle.ados_run.specs.Runs.{BothSides}
 use Rattle.ados_run.specs.TreeLists.{beside}
-use Rattle.c_values.specs.Dates.{date_of}
-use Rattle.c_values.specs.Status.{refusal_number}
-use Rattle.c_values.specs.declared.refusal.Refusal.{Refusal}
-use Rattle.c_values.specs.declared.refusal.Refusal.TheVariants.{NotAnImage, NoMemory, WrongArgument}
+use Rattle.adf_c.specs.Dates.{date_of}
+use Rattle.adf_c.specs.Status.{refusal_number}
+use Rattle.adf_c.specs.declared.values.refusal.Refusal.{Refusal}
+use Rattle.adf_c.specs.declared.values.refusal.Refusal.TheVariants.{NotAnImage, NoMemory, WrongArgument}
 use Rattle.adf_c.specs.Calls.{CopiesImage, RefusesServe, Serves}
 use Rattle.adf_c.specs.Desk.{ServesAsHandler, ServesPacket, ServesReadOnly}
 use Rattle.adf_c.specs.History.{AreMade, AreOneRun, CallsAreOneRun, LeaveTheImage, ServeCall}

@@ -5,17 +5,17 @@ use Rattle.std.proofs.lemmas.Bool.{false≢true, true≢false}
 use Rattle.adf_block.specs.Whole.{IsImage}
 use Rattle.ados_model.specs.Stands.{Stands}
 use Rattle.ados_model.specs.Tree.{Tree}
-use Rattle.adf_salvage.specs.Salvaged.{AreOfTree, Salvages, Saved}
-use Rattle.adf_salvage.specs.Saved.{IsAt}
-use Rattle.adf_salvage.specs.declared.salvaged.Salvaged.{Salvaged}
-use Rattle.c_values.specs.Buffers.{Refuses}
-use Rattle.c_values.specs.Owners.{MapsOwners}
-use Rattle.c_values.specs.Told.{TellsAll}
-use Rattle.c_values.specs.declared.told.JipTold.{JipTold}
-use Rattle.c_values.specs.declared.owners.JipOwner.{JipOwner}
-use Rattle.c_values.specs.declared.refusal.Refusal.{Refusal}
-use Rattle.c_values.specs.declared.refusal.Refusal.TheVariants.{NotAnImage, NoMemory, WrongArgument}
-use Rattle.c_values.specs.declared.salvaged.JipSalvaged.{JipSalvaged}
+use Rattle.ados_salvage.specs.Salvaged.{AreOfTree, Salvages, Saved}
+use Rattle.ados_salvage.specs.Saved.{IsAt}
+use Rattle.ados_salvage.specs.declared.salvaged.Salvaged.{Salvaged}
+use Rattle.adf_c.specs.Buffers.{Refuses}
+use Rattle.adf_c.specs.Owners.{MapsOwners}
+use Rattle.adf_c.specs.Blocks.{TellsAll}
+use Rattle.adf_c.specs.declared.values.blocks.JipTold.{JipTold}
+use Rattle.adf_c.specs.declared.values.owners.JipOwner.{JipOwner}
+use Rattle.adf_c.specs.declared.values.refusal.Refusal.{Refusal}
+use Rattle.adf_c.specs.declared.values.refusal.Refusal.TheVariants.{NotAnImage, NoMemory, WrongArgument}
+use Rattle.adf_c.specs.declared.values.salvaged.JipSalvaged.{JipSalvaged}
 use Rattle.adf_c.specs.Map.{MapsHeld, RefusesMap}
 use Rattle.adf_c.specs.Salvaging.{AtPlace, InSaved, IsNoPlace, IsOpened, IsPast, IsToldAs, Opens, RefusesPlace}
 use Rattle.adf_c.specs.Telling.{RefusesBlocks, TellsHeld}

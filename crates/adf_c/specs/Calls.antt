@@ -13,17 +13,17 @@ use Rattle.ados_model.specs.Accepted.{Accepts}
 use Rattle.ados_model.specs.Blank.{IsBlank}
 use Rattle.ados_model.specs.Session.{opening_session}
 use Rattle.adf_c.specs.Desk.{ServesPacket}
-use Rattle.c_values.specs.Faults.{IsFaultOf}
-use Rattle.c_values.specs.Dates.{date_of}
-use Rattle.c_values.specs.Ends.{Comes, ComesTo}
+use Rattle.adf_c.specs.Faults.{IsFaultOf}
+use Rattle.adf_c.specs.Dates.{date_of}
+use Rattle.adf_c.specs.Ends.{Comes, ComesTo}
 use Rattle.adf_c.specs.Spelling.{Spells, carried}
-use Rattle.c_values.specs.Telling.{told_of, buffer_after}
-use Rattle.c_values.specs.declared.answer.JipAnswer.{JipAnswer}
+use Rattle.adf_c.specs.Answers.{told_of, buffer_after}
+use Rattle.adf_c.specs.declared.values.answer.JipAnswer.{JipAnswer}
 use Rattle.adf_c.specs.declared.desk.Desk.{Desk}
-use Rattle.c_values.specs.declared.faults.JipFault.{JipFault}
+use Rattle.adf_c.specs.declared.values.faults.JipFault.{JipFault}
 use Rattle.adf_c.specs.declared.packet.JipPacket.{JipPacket}
-use Rattle.c_values.specs.declared.refusal.Refusal.{Refusal}
-use Rattle.c_values.specs.declared.refusal.Refusal.TheVariants.{NotAnImage, NoMemory, WrongArgument}
+use Rattle.adf_c.specs.declared.values.refusal.Refusal.{Refusal}
+use Rattle.adf_c.specs.declared.values.refusal.Refusal.TheVariants.{NotAnImage, NoMemory, WrongArgument}
 
 -- the handle is open already
 abbrev pub IsOpen : Option Desk → Type 0

@@ -3,10 +3,10 @@ use Rattle.std.specs.Prelude.{◌≡◌, ◌≢◌, ◌<◌, ◌⊎◌, ⊤, ℕ
 use Rattle.std.specs.List.{range_with_len}
 use Rattle.adf_block.specs.declared.layout.TheConstants.{BLOCK_BYTES}
 use Rattle.adf_block.specs.Image.{block_count, bytes_at}
-use Rattle.c_values.specs.Ends.{ComesTo}
+use Rattle.adf_c.specs.Ends.{ComesTo}
 use Rattle.adf_c.specs.declared.desk.Desk.{Desk}
-use Rattle.c_values.specs.declared.refusal.Refusal.{Refusal}
-use Rattle.c_values.specs.declared.refusal.Refusal.TheVariants.{NotAnImage, NoMemory, WrongArgument}
+use Rattle.adf_c.specs.declared.values.refusal.Refusal.{Refusal}
+use Rattle.adf_c.specs.declared.values.refusal.Refusal.TheVariants.{NotAnImage, NoMemory, WrongArgument}
 
 -- the block has other bytes in the image than in the copy
 abbrev pub differs : List ℕ → List ℕ → ℕ → Bool

@@ -9,9 +9,9 @@ use Rattle.ados_port.specs.History.{Run, Serving, last_server}
 use Rattle.ados_run.specs.Keeping.{ServesBoth}
 use Rattle.ados_run.specs.Runs.{BothSides}
 use Rattle.ados_run.specs.TreeLists.{beside}
-use Rattle.c_values.specs.Dates.{date_of}
-use Rattle.c_values.specs.Telling.{buffer_after, told_of}
-use Rattle.c_values.specs.declared.answer.JipAnswer.{JipAnswer}
+use Rattle.adf_c.specs.Dates.{date_of}
+use Rattle.adf_c.specs.Answers.{buffer_after, told_of}
+use Rattle.adf_c.specs.declared.values.answer.JipAnswer.{JipAnswer}
 use Rattle.adf_c.specs.Calls.{CopiesImage, ServeEnds, SpellsFitting}
 use Rattle.adf_c.specs.declared.desk.Desk.{Desk}
 use Rattle.adf_c.specs.declared.packet.JipPacket.{JipPacket}

@@ -1,11 +1,11 @@
 -- The map of a handle's image.
 use Rattle.std.specs.Prelude.{◌≡◌, ⊤, ℕ, ℤ, List, length, Option, Some, None}
-use Rattle.c_values.specs.Ends.{ComesTo}
-use Rattle.c_values.specs.Lists.{copied}
-use Rattle.c_values.specs.Owners.{MapsOwners}
-use Rattle.c_values.specs.declared.owners.JipOwner.{JipOwner}
-use Rattle.c_values.specs.declared.refusal.Refusal.{Refusal}
-use Rattle.c_values.specs.declared.refusal.Refusal.TheVariants.{NotAnImage, NoMemory, WrongArgument}
+use Rattle.adf_c.specs.Ends.{ComesTo}
+use Rattle.adf_c.specs.Lists.{copied}
+use Rattle.adf_c.specs.Owners.{MapsOwners}
+use Rattle.adf_c.specs.declared.values.owners.JipOwner.{JipOwner}
+use Rattle.adf_c.specs.declared.values.refusal.Refusal.{Refusal}
+use Rattle.adf_c.specs.declared.values.refusal.Refusal.TheVariants.{NotAnImage, NoMemory, WrongArgument}
 use Rattle.adf_c.specs.declared.desk.Desk.{Desk}
 
 -- these are the owners of the blocks of the handle's image

@@ -5,14 +5,14 @@ use Rattle.adf_block.specs.Whole.{IsImage}
 use Rattle.adf_block.specs.declared.volume_size.SizeFault.{SizeFault}
 use Rattle.ados_model.specs.Stands.{Stands}
 use Rattle.ados_model.specs.Tree.{Tree}
-use Rattle.adf_salvage.specs.Salvaged.{AreOfTree, Salvages, Saved, ended}
-use Rattle.adf_salvage.specs.Saved.{HasBytes, IsAt, size_of}
-use Rattle.adf_salvage.specs.declared.salvaged.Salvaged.{Salvaged}
-use Rattle.c_values.specs.Ends.{Comes, ComesTo}
-use Rattle.c_values.specs.Salvaged.{told_salvaged}
-use Rattle.c_values.specs.declared.refusal.Refusal.{Refusal}
-use Rattle.c_values.specs.declared.refusal.Refusal.TheVariants.{NotAnImage, NoMemory, WrongArgument}
-use Rattle.c_values.specs.declared.salvaged.JipSalvaged.{JipSalvaged}
+use Rattle.ados_salvage.specs.Salvaged.{AreOfTree, Salvages, Saved, ended}
+use Rattle.ados_salvage.specs.Saved.{HasBytes, IsAt, size_of}
+use Rattle.ados_salvage.specs.declared.salvaged.Salvaged.{Salvaged}
+use Rattle.adf_c.specs.Ends.{Comes, ComesTo}
+use Rattle.adf_c.specs.Salvaged.{told_salvaged}
+use Rattle.adf_c.specs.declared.values.refusal.Refusal.{Refusal}
+use Rattle.adf_c.specs.declared.values.refusal.Refusal.TheVariants.{NotAnImage, NoMemory, WrongArgument}
+use Rattle.adf_c.specs.declared.values.salvaged.JipSalvaged.{JipSalvaged}
 
 -- the salvage is open already
 abbrev pub IsOpened : Option Saved → Type 0

@@ -5,7 +5,7 @@ use Rattle.ados_model.specs.declared.action.Action.{Action}
 use Rattle.ados_model.specs.declared.action.Action.TheVariants as action
 use Rattle.ados_model.specs.declared.packet.Packet.{Packet}
 use Rattle.ados_model.specs.declared.packet.Packet.TheVariants.{Die, LocateObject, RenameDisk, FreeLock, DeleteObject, RenameObject, CopyDir, SetProtect, CreateDir, ExamineObject, ExamineNext, DiskInfo, Info, SetComment, Parent, SetDate, SameLock, Read, Write, FindUpdate, FindInput, FindOutput, End, Seek, SetFileSize, Other}
-use Rattle.c_values.specs.Dates.{date_of}
+use Rattle.adf_c.specs.Dates.{date_of}
 use Rattle.adf_c.specs.declared.packet.JipPacket.{JipPacket}
 
 -- no action with a name has this number

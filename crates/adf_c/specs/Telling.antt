@@ -2,17 +2,17 @@
 use Rattle.std.specs.Prelude.{◌≡◌, ⊤, ℕ, ℤ, List, length, Option, Some, None}
 use Rattle.adf_block.specs.HasBoot.{HasBoot}
 use Rattle.adf_block.specs.declared.standard.TheConstants.{STANDARD_BOOT}
-use Rattle.adf_salvage.specs.Salvaged.{Saved}
-use Rattle.c_values.specs.Boots.{TellsBoot}
-use Rattle.c_values.specs.Buffers.{Puts}
-use Rattle.c_values.specs.Ends.{ComesTo}
-use Rattle.c_values.specs.Images.{IsLabel, RefusesImage, RefusesLabel}
-use Rattle.c_values.specs.Lists.{copied}
-use Rattle.c_values.specs.Told.{TellsAll}
-use Rattle.c_values.specs.declared.boots.JipBoot.{JipBoot}
-use Rattle.c_values.specs.declared.refusal.Refusal.{Refusal}
-use Rattle.c_values.specs.declared.refusal.Refusal.TheVariants.{NotAnImage, NoMemory, WrongArgument}
-use Rattle.c_values.specs.declared.told.JipTold.{JipTold}
+use Rattle.ados_salvage.specs.Salvaged.{Saved}
+use Rattle.adf_c.specs.Boots.{TellsBoot}
+use Rattle.adf_c.specs.Buffers.{Puts}
+use Rattle.adf_c.specs.Ends.{ComesTo}
+use Rattle.adf_c.specs.Images.{IsLabel, RefusesImage, RefusesLabel}
+use Rattle.adf_c.specs.Lists.{copied}
+use Rattle.adf_c.specs.Blocks.{TellsAll}
+use Rattle.adf_c.specs.declared.values.boots.JipBoot.{JipBoot}
+use Rattle.adf_c.specs.declared.values.refusal.Refusal.{Refusal}
+use Rattle.adf_c.specs.declared.values.refusal.Refusal.TheVariants.{NotAnImage, NoMemory, WrongArgument}
+use Rattle.adf_c.specs.declared.values.blocks.JipTold.{JipTold}
 
 -- these are the blocks of which the salvage that C holds tells what they are
 abbrev pub TellsHeld : Option Saved → List JipTold → Type 0

@@ -2,8 +2,8 @@
 
 ghost use Rattle.adf_c.specs.Telling.{BootEnds, InstallEnds};
 
+use crate::values::{JipBoot, image_of};
 use adf_block::install_standard;
-use c_values::{JipBoot, image_of};
 use std::alloc::Global;
 
 /// Tells what the boot block of an image is. The status is 0.

@@ -5,9 +5,9 @@ ghost use Rattle.adf_block.specs.Image.{block_count};
 ghost use Rattle.adf_c.specs.Changed.{ChangedComes, ChangedEnds, TakingComes, changed_blocks as changed_of, differs as differs_in};
 
 use crate::handle::{Holder, JipHandle};
+use crate::values::Refusal;
 use adf_block::Image;
 use adf_block::layout::BLOCK_BYTES;
-use c_values::Refusal;
 use std::alloc::{AllocError, Global};
 
 /// Bytes in a block.

@@ -1,9 +1,9 @@
 //! All faults of an image for C.
 
 ghost use Rattle.std.specs.Prelude.{◌≡◌};
-ghost use Rattle.c_values.specs.Findings.{CheckEnds, FindingsEnd, yes_number};
+ghost use Rattle.adf_c.specs.Findings.{CheckEnds, FindingsEnd, yes_number};
 
-use c_values::{JipFault, JipFinding, Refusal, copy_to, faults_in, findings_of};
+use crate::values::{JipFault, JipFinding, Refusal, copy_to, faults_in, findings_of};
 use std::alloc::Global;
 
 /// Lists the faults of an image, by block and then by kind: the first 1,000 of them. They are written to `faults`, as

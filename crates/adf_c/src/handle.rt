@@ -6,12 +6,12 @@ ghost use Rattle.std.specs.Option.{MatchOption};
 ghost use Rattle.std.specs.declared.option.Option.{Option as Maybe};
 ghost use Rattle.std.specs.declared.option.Option.TheVariants.{None, Some};
 ghost use Rattle.adf_c.specs.contracts.desk.Desk.{the_row as desk_row};
-ghost use Rattle.adf_salvage.specs.contracts.saved.Salvage.{the_row as salvage_row};
+ghost use Rattle.ados_salvage.specs.contracts.saved.Salvage.{the_row as salvage_row};
 ghost use Rattle.adf_c.specs.Holding.{holds};
 
 use crate::desk::Desk;
 use crate::loose::Loose;
-use adf_salvage::Salvage;
+use ados_salvage::Salvage;
 use std::alloc::Global;
 use std::marker::Model;
 use std::mem::replace;

@@ -2,11 +2,11 @@
 
 ghost use Rattle.std.specs.Prelude.{◌≡◌, length};
 ghost use Rattle.std.specs.Option.{MatchOption};
-ghost use Rattle.c_values.specs.Ends.{Comes};
+ghost use Rattle.adf_c.specs.Ends.{Comes};
 ghost use Rattle.adf_c.specs.Calls.{CopiesBytes, CopyComes, CopyEnds, RefusesBytes};
 
 use crate::handle::{Holder, JipHandle};
-use c_values::{Refusal, status};
+use crate::values::{Refusal, status};
 use std::alloc::Global;
 
 /// The length of the image in bytes; 0 for a closed handle.

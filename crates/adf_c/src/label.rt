@@ -2,7 +2,7 @@
 
 ghost use Rattle.adf_c.specs.Telling.{LabelEnds};
 
-use c_values::{label_of, put};
+use crate::values::{label_of, put};
 use std::alloc::Global;
 
 /// The label of a volume: the name in the root block of its image, whatever else is wrong there. The status is 0.

@@ -5,6 +5,7 @@
 //! be a reference, such as null pointers and lengths beyond memory, and then call these.
 #![tactic(auto)]
 
+pub mod blocks;
 pub mod boot;
 pub mod changed;
 pub mod desk;
@@ -23,12 +24,12 @@ pub mod read_only;
 pub mod salvage;
 pub mod serve;
 pub mod texts;
-pub mod told;
+pub mod values;
 
-pub use c_values::{
-    JipAnswer, JipBoot, JipDate, JipDisk, JipEntry, JipFault, JipFinding, JipOwner, JipSalvaged,
-    JipTold, Refusal,
-};
 pub use desk::Desk;
 pub use handle::{JipHandle, JipSalvage};
 pub use packet::JipPacket;
+pub use values::{
+    JipAnswer, JipBoot, JipDate, JipDisk, JipEntry, JipFault, JipFinding, JipOwner, JipSalvaged,
+    JipTold, Refusal,
+};

@@ -1,13 +1,13 @@
 //! The map of a handle's image: who owns each block.
 
 ghost use Rattle.std.specs.Prelude.{◌≡◌, MatchResult};
-ghost use Rattle.c_values.specs.Owners.{MapsOwners};
-ghost use Rattle.c_values.specs.declared.refusal.Refusal.TheVariants.{NoMemory};
+ghost use Rattle.adf_c.specs.Owners.{MapsOwners};
+ghost use Rattle.adf_c.specs.declared.values.refusal.Refusal.TheVariants.{NoMemory};
 ghost use Rattle.adf_c.specs.Map.{MapEnds, MapsHeld, RefusesMap};
 
 use crate::handle::{Holder, JipHandle};
+use crate::values::{JipOwner, Refusal, copy_to, owners_of};
 use ados_volume::Volume;
-use c_values::{JipOwner, Refusal, copy_to, owners_of};
 use std::alloc::Global;
 
 /// Lists the owner of each block of the image, in the order of the blocks. They are written to `owners`, as many as it

@@ -6,12 +6,12 @@ ghost use Rattle.std.specs.Prelude.{◌≡◌, ◌⊎◌, pos};
 ghost use Rattle.ados_name.specs.Name.{IsName};
 ghost use Rattle.adf_text.specs.Letters.{letters};
 ghost use Rattle.adf_text.specs.ProtectionLetters.{protection_letters as letters_of};
-ghost use Rattle.c_values.specs.Buffers.{Puts, TextEnds};
-ghost use Rattle.c_values.specs.Names.{AreBytesOf, BitsEnd, HasByteLetters, IsHostOf, IsNamedBy};
+ghost use Rattle.adf_c.specs.Buffers.{Puts, TextEnds};
+ghost use Rattle.adf_c.specs.Names.{AreBytesOf, BitsEnd, HasByteLetters, IsHostOf, IsNamedBy};
 
+use crate::values::{Refusal, bytes_of_letters, host_of_name, letters_of_bytes, name_of_host, put};
 use adf_text::{protection_letters, protection_of_letters};
 use ados_name::{Name, Protect};
-use c_values::{Refusal, bytes_of_letters, host_of_name, letters_of_bytes, name_of_host, put};
 use std::alloc::Global;
 
 /// Whether the bytes are a name of an entry: 1 if so, else 0.

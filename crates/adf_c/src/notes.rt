@@ -3,11 +3,11 @@
 ghost use Rattle.std.specs.Prelude.{◌≡◌, pos};
 ghost use Rattle.ados_name.specs.Date.{IsTextOf};
 ghost use Rattle.ados_name.specs.Name.{IsComment};
-ghost use Rattle.c_values.specs.Buffers.{TextEnds};
-ghost use Rattle.c_values.specs.Dates.{DateOfTextEnds, DateOfTimeEnds, IsTimeOf, date_of};
-ghost use Rattle.c_values.specs.Names.{IsNoteOf, NoteEnds};
+ghost use Rattle.adf_c.specs.Buffers.{TextEnds};
+ghost use Rattle.adf_c.specs.Dates.{DateOfTextEnds, DateOfTimeEnds, IsTimeOf, date_of};
+ghost use Rattle.adf_c.specs.Names.{IsNoteOf, NoteEnds};
 
-use c_values::{
+use crate::values::{
     JipDate, date_of_text, date_of_time, put, read_uaem, text_of_date, time_of_date, uaem_line,
 };
 use std::alloc::Global;

@@ -3,16 +3,16 @@
 ghost use Rattle.std.specs.Prelude.{◌≡◌, ◌≢◌, pos, false, None};
 ghost use Rattle.std.specs.Option.{MatchOption};
 ghost use Rattle.adf_c.specs.Calls.{BlankComes, BlankEnds, OpenComes, OpenEnds, SeatComes, format_number};
-ghost use Rattle.c_values.specs.Dates.{date_of};
+ghost use Rattle.adf_c.specs.Dates.{date_of};
 
 use crate::desk::Desk;
 use crate::handle::{Holder, JipHandle};
+use crate::values::{JipDate, JipFault, Refusal, status};
 use adf_block::{Format, Image, size_ok};
 use ados_handler::Handler;
 use ados_model::FaultKind;
 use ados_name::{Date3, Name};
 use ados_volume::{Volume, blank, check};
-use c_values::{JipDate, JipFault, Refusal, status};
 use std::alloc::Global;
 
 /// Opens a handle on a copy of these bytes, if they are an image that the check accepts. The status is 0, and the

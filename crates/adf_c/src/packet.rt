@@ -5,8 +5,8 @@ ghost use Rattle.ados_name.specs.Path.{IsPathText};
 ghost use Rattle.adf_c.specs.Spelling.{IsActionOf, packet_of};
 
 use crate::texts::copied;
+use crate::values::JipDate;
 use ados_model::{Action, Buffer, Packet};
-use c_values::JipDate;
 use std::alloc::{AllocError, Global};
 
 /// A packet from C: the number of its action, one field for each kind of argument, and its time stamp. Only the fields

@@ -7,10 +7,10 @@ ghost use Rattle.adf_c.specs.ReadOnly.{GivesReadOnly, of_protected_disk, protect
 
 use crate::handle::JipHandle;
 use crate::open::open;
+use crate::values::{JipFault, status};
 use ados_handler::Handler;
 use ados_model::{Answer, Body, DiskInfo, Packet};
 use ados_name::Date3;
-use c_values::{JipFault, status};
 use std::alloc::Global;
 
 /// The DOS error of a write-protected disk.

@@ -2,13 +2,13 @@
 
 ghost use Rattle.std.specs.Prelude.{◌≡◌, ◌≤◌, pos, length, None, MatchResult};
 ghost use Rattle.std.specs.Option.{MatchOption};
-ghost use Rattle.c_values.specs.Buffers.{Refuses, TextEnds};
+ghost use Rattle.adf_c.specs.Buffers.{Refuses, TextEnds};
 ghost use Rattle.adf_c.specs.Salvaging.{AtPlace, EntryEnds, HasFileBytes, HasOwnName, InSaved, IsNoPlace, IsPast, IsToldAs, RefusesPlace, SalvageComes, SalvageEnds};
 
 use crate::handle::{Holder, JipSalvage};
+use crate::values::{JipSalvaged, Refusal, put, status};
 use adf_block::Image;
-use adf_salvage::{Salvage, salvage as salvaged};
-use c_values::{JipSalvaged, Refusal, put, status};
+use ados_salvage::{Salvage, salvage as salvaged};
 use std::alloc::Global;
 
 /// Opens a closed salvage on a copy of these bytes. The status is 0, and the bytes are not used afterwards.

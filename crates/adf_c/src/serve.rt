@@ -4,13 +4,13 @@ ghost use Rattle.std.specs.Prelude.{◌≡◌, ◌↔◌, IsTrue};
 ghost use Rattle.ados_name.specs.Path.{IsPathText};
 ghost use Rattle.adf_c.specs.Calls.{LoadComes, ServeEnds};
 ghost use Rattle.adf_c.specs.Spelling.{carried};
-ghost use Rattle.c_values.specs.Telling.{fills as fills_buffer, handed_back};
+ghost use Rattle.adf_c.specs.Answers.{fills as fills_buffer, handed_back};
 
 use crate::handle::{Holder, JipHandle};
 use crate::packet::JipPacket;
+use crate::values::{JipAnswer, Refusal};
 use ados_model::{Action, Body, Buffer, Packet};
 use ados_name::PathText;
-use c_values::{JipAnswer, Refusal};
 use std::alloc::Global;
 
 /// Serves one packet: that of the struct with these texts, `bytes` for a WRITE and `buffer` for a READ, at the

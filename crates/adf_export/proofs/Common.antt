@@ -11,7 +11,7 @@ pub use Rattle.adf_export.specs.declared.entry.Source.TheVariants.{Entry, Note}
 pub use Rattle.adf_export.specs.declared.listing.Level.{Level}
 pub use Rattle.adf_export.specs.declared.listing.Listing.{Listing}
 pub use Rattle.adf_export.specs.declared.order.Rank.{Rank}
-pub use Rattle.adf_export.specs.steps.Fronting.{names_down}
+pub use Rattle.adf_export.specs.steps.NamesDown.{names_down}
 pub use Rattle.adf_export.specs.steps.Going.{GoesOn, PushesDate, PushesEntry, Starts}
 pub use Rattle.adf_export.specs.steps.Levels.{HasKeys, HaveKeys, IsLeft, IsOpen, IsSoFar, entry_at, first_keys, first_path, to_list, with_below, work}
 pub use Rattle.adf_export.specs.steps.Ranked.{AreRanked, IsRank, rank_cmp}
@@ -19,9 +19,9 @@ pub use Rattle.adf_io.proofs.Outcomes.{at_any_err, if_ok_both}
 pub use Rattle.adf_io.specs.Prefix.{Passes, Writes, WritesFront, WritesFrontOf}
 pub use Rattle.adf_record.proofs.Tokens.{behind}
 pub use Rattle.adf_record.specs.Second.{PushesSecond, to_second}
-pub use Rattle.adf_words.specs.declared.query.ListForm.{ListForm}
-pub use Rattle.adf_words.specs.declared.query.ListOrder.{ListOrder}
-pub use Rattle.adf_words.specs.declared.query.ListOrder.TheVariants.{Date, Disk, Name, Size}
+pub use Rattle.adf_cli.specs.declared.query.ListForm.{ListForm}
+pub use Rattle.adf_cli.specs.declared.query.ListOrder.{ListOrder}
+pub use Rattle.adf_cli.specs.declared.query.ListOrder.TheVariants.{Date, Disk, Name, Size}
 pub use Rattle.ados_model.proofs.KeyLists.{Contains-cases, Contains-here, Contains-later, Contains-nil, Once, Once-append, Once-before, Once-cons, Once-head, Once-tail, length-once}
 pub use Rattle.ados_model.proofs.Nodes.{entry_node, parent_in, some_in}
 pub use Rattle.ados_model.proofs.Standing.{count_same}
@@ -41,8 +41,8 @@ pub use Rattle.ados_volume.specs.Below.{AreBelow, HasGrown}
 pub use Rattle.ados_volume.specs.Located.{Located}
 pub use Rattle.ados_volume.specs.Paths.{Leads, StopsAt}
 pub use Rattle.ados_volume.specs.declared.below.Below.{Below}
-pub use Rattle.host_trees.specs.Notes.{note_of}
-pub use Rattle.host_trees.specs.declared.items.HostItem.{HostItem}
+pub use Rattle.adf_host.specs.Notes.{note_of}
+pub use Rattle.adf_host.specs.declared.trees.items.HostItem.{HostItem}
 pub use Rattle.std.proofs.Common.{All, Bool, Bor, Contains, Err, IfOk, IfSome, IsSome, List, None, Ok, OnErr, Option, Result, Some, Vec, [], ap, append-nil, append_assoc, ap₂, arith, drop, drop-cons, eq-eqb, false, get_or, inl, inr, is_some, length, length-append, map, min, option_map, option_to_list, pos, refl, replicate, slice_get, subst, suc, sym, take, take-append-drop, true, vec_len, zero, ℕ, ◌*◌, ◌++◌, ◌+◌, ◌-◌, ◌<◌, ◌==◌, ◌∙◌, ◌∷◌, ◌≡◌, ◌≢◌, ◌≤◌, ◌⊎◌}
 pub use Rattle.std.proofs.lemmas.Bool.{false≢true, ne_eqb}
 pub use Rattle.std.proofs.lemmas.Grind.{flat_map-append}

@@ -1,7 +1,7 @@
 -- The items of one entry.
 use Rattle.adf_export.proofs.Common.{◌≡◌, Bool, false, true, List, [], ◌∷◌, ◌++◌, Some, option_map, ap, sym, ◌∙◌, subst, append_assoc, FileInfo, Node, Tree, file_info, HostItem, Below, Source, Note, AreItems, GoesOut, IsItem, item_place, kind_of, sources_of, note_of, Entry}
 use Rattle.adf_export.specs.Items.{IsItemName}
-use Rattle.host_trees.specs.declared.items.ItemKind.TheVariants as kinds
+use Rattle.adf_host.specs.declared.trees.items.ItemKind.TheVariants as kinds
 
 -- items follow others, those of an entry
 abbrev pub AddsItems : Tree → Bool → Below → List HostItem → List HostItem → Type 0

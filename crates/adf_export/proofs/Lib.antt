@@ -9,7 +9,7 @@ pub mod Files
 pub mod Left
 pub mod Directories
 pub mod InOrder
-pub mod Fronting
+pub mod PathsUp
 pub mod Padding
 pub mod ListingSteps
 pub mod Written

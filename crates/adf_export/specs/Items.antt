@@ -8,10 +8,10 @@ use Rattle.ados_model.specs.Objects.{file_info}
 use Rattle.adf_text.specs.declared.uaem.Uaem.{Uaem}
 use Rattle.adf_text.specs.HostNames.{host_name}
 use Rattle.adf_text.specs.Uaem.{IsLineOf}
-use Rattle.host_trees.specs.declared.items.HostItem.{HostItem}
-use Rattle.host_trees.specs.declared.items.ItemKind.{ItemKind}
-use Rattle.host_trees.specs.declared.items.ItemKind.TheVariants as kinds
-use Rattle.host_trees.specs.Notes.{IsBesideNotes, note_of}
+use Rattle.adf_host.specs.declared.trees.items.HostItem.{HostItem}
+use Rattle.adf_host.specs.declared.trees.items.ItemKind.{ItemKind}
+use Rattle.adf_host.specs.declared.trees.items.ItemKind.TheVariants as kinds
+use Rattle.adf_host.specs.Notes.{IsBesideNotes, note_of}
 use Rattle.ados_volume.specs.declared.below.Below.{Below}
 use Rattle.ados_volume.specs.Below.{AreBelow}
 use Rattle.adf_export.specs.declared.entry.Outgoing.{Outgoing}

@@ -15,9 +15,9 @@ use Rattle.adf_text.specs.Plain.{plain}
 use Rattle.adf_text.specs.ProtectionLetters.{protection_letters}
 use Rattle.adf_record.specs.Second.{to_second}
 use Rattle.adf_record.specs.Shown.{bold}
-use Rattle.adf_words.specs.declared.query.ListForm.{ListForm}
-use Rattle.adf_words.specs.declared.query.ListForm.TheVariants.{Bytes, Letters, Long, Bold, Json}
-use Rattle.adf_words.specs.declared.query.ListOrder.{ListOrder}
+use Rattle.adf_cli.specs.declared.query.ListForm.{ListForm}
+use Rattle.adf_cli.specs.declared.query.ListForm.TheVariants.{Bytes, Letters, Long, Bold, Json}
+use Rattle.adf_cli.specs.declared.query.ListOrder.{ListOrder}
 use Rattle.adf_export.specs.Objects.{IsObject}
 use Rattle.adf_export.specs.Ordered.{ordered}
 

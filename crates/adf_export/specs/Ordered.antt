@@ -9,8 +9,8 @@ use Rattle.ados_name.specs.declared.stamp.Date3.{Date3}
 use Rattle.ados_model.specs.declared.answer.FileInfo.{FileInfo}
 use Rattle.ados_model.specs.Objects.{file_info}
 use Rattle.ados_model.specs.Tree.{Tree, entries, name_of}
-use Rattle.adf_words.specs.declared.query.ListOrder.{ListOrder}
-use Rattle.adf_words.specs.declared.query.ListOrder.TheVariants.{Disk, Size, Date}
+use Rattle.adf_cli.specs.declared.query.ListOrder.{ListOrder}
+use Rattle.adf_cli.specs.declared.query.ListOrder.TheVariants.{Disk, Size, Date}
 
 -- files before directories, and the largest file first
 abbrev pub size_weight : FileInfo → List ℕ

@@ -2,4 +2,4 @@
 pub mod Ranked
 pub mod Levels
 pub mod Going
-pub mod Fronting
+pub mod NamesDown

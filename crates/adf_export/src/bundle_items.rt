@@ -1,8 +1,8 @@
 //! The host files and directories of a bundle, and their bytes.
 
 use crate::bytes::VolumeBytes;
+use adf_host::{Contents, HostItem, HostName, ItemKind};
 use ados_name::{Date3, Name};
-use host_trees::{Contents, HostItem, HostName, ItemKind};
 use std::alloc::{AllocError, Global};
 use std::mem;
 

@@ -5,12 +5,11 @@ use crate::bundle_items::{BundleBytes, bundle_items};
 use crate::bytes::VolumeBytes;
 use crate::entry::Outgoing;
 use crate::items::outgoing;
-use adf_host::{HostWords, OwnedFile, PromptFiles};
+use adf_host::{HostWords, OwnedFile, PromptFiles, WriteFault, write_tree};
 use adf_record::{
     Bundle, BundleFault, BundleHead, BundleWhy, MOST_BUNDLE_BYTES, bundle_of, bundle_text,
 };
 use ados_volume::Volume;
-use host_trees::{WriteFault, write_tree};
 use std::alloc::{AllocError, Global};
 use std::fs;
 use std::io::{Error, ErrorKind};

@@ -8,9 +8,9 @@ ghost use Rattle.adf_text.specs.Uaem.{IsLineOf};
 ghost use Rattle.adf_export.specs.declared.entry.Source.TheVariants.{Note};
 
 use crate::entry::Source;
+use adf_host::Contents;
 use adf_text::{Uaem, uaem_line};
 use ados_volume::{Volume, read_file};
-use host_trees::Contents;
 use std::alloc::{AllocError, Global};
 use std::marker::Model;
 

@@ -3,12 +3,12 @@ ghost use Rattle.std.specs.Prelude.{◌≡◌, ◌++◌, ◌<◌, ◌^◌, [], �
 ghost use Rattle.ados_model.specs.Keys.{HasKey};
 ghost use Rattle.ados_model.specs.Stands.{Stands};
 ghost use Rattle.ados_model.specs.Tree.{Node, Tree};
-ghost use Rattle.host_trees.specs.declared.items.HostItem.{HostItem as Item};
+ghost use Rattle.adf_host.specs.declared.trees.items.HostItem.{HostItem as Item};
 ghost use Rattle.adf_export.specs.Items.{GoesOut, IsItemName, item_place, kind_of, sources_of};
 
+use adf_host::{HostItem, HostName, ItemKind};
 use ados_name::Name;
 use ados_volume::{Below, Volume};
-use host_trees::{HostItem, HostName, ItemKind};
 use std::alloc::{AllocError, Global};
 
 /// Where the bytes of an item come from.

@@ -7,10 +7,9 @@ ghost use Rattle.adf_export.specs.Words.{IsExtractFault};
 use crate::bytes::VolumeBytes;
 use crate::fault::OutFault;
 use crate::items::outgoing;
-use adf_host::{OwnedFile, PromptFiles};
-use adf_words::ExtractJob;
+use adf_cli::ExtractJob;
+use adf_host::{OwnedFile, PromptFiles, write_tree};
 use ados_volume::Volume;
-use host_trees::write_tree;
 use std::alloc::Global;
 
 /// Writes the entries of the job's paths, with everything below them, below a directory of the host. Without a path,

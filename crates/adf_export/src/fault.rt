@@ -1,7 +1,7 @@
 //! Why output from a volume failed.
 
-use adf_words::Refused;
-use host_trees::WriteFault;
+use adf_cli::Refused;
+use adf_host::WriteFault;
 use std::alloc::AllocError;
 use thiserror::Error;
 

@@ -6,7 +6,7 @@ ghost use Rattle.adf_export.specs.Listing.{head, volume_line};
 
 use crate::keys::name_of;
 use crate::lines::push_names;
-use adf_words::ListForm;
+use adf_cli::ListForm;
 use ados_volume::Volume;
 use std::alloc::{AllocError, Global};
 

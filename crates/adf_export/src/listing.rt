@@ -9,13 +9,13 @@ ghost use Rattle.adf_export.specs.Listing.{BeginsList, IsList};
 ghost use Rattle.adf_export.specs.steps.Levels.{HaveKeys, IsSoFar, first_keys, first_path, to_list};
 ghost use Rattle.adf_export.specs.steps.Going.{GoesOn, Starts};
 
-use crate::front::{front_above, front_of};
 use crate::head::head_text;
 use crate::keys::{describe, is_directory};
 use crate::lines::push_entry;
 use crate::order::ordered_keys;
+use crate::paths::{front_above, front_of};
+use adf_cli::{ListForm, ListOrder};
 use adf_io::{PrintFault, write_text, write_when_long};
-use adf_words::{ListForm, ListOrder};
 use ados_volume::Volume;
 use std::alloc::{AllocError, Global};
 use std::io::Write;

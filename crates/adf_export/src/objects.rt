@@ -6,9 +6,9 @@ ghost use Rattle.adf_export.specs.Objects.{measures_tokens, object_line, object_
 ghost use Rattle.adf_export.specs.steps.Going.{PushesEntry};
 
 use crate::keys::is_file;
+use adf_cli::ListForm;
 use adf_record::{put_number, put_text};
 use adf_text::letter_text;
-use adf_words::ListForm;
 use ados_model::FileInfo;
 use json::Writer;
 use std::alloc::{AllocError, Global};

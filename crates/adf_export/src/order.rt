@@ -9,7 +9,7 @@ ghost use Rattle.std.specs.BTreeMap.{values};
 ghost use Rattle.adf_export.specs.steps.Ranked.{IsRank};
 
 use crate::keys::{entry_behind, is_file};
-use adf_words::ListOrder;
+use adf_cli::ListOrder;
 use ados_model::FileInfo;
 use ados_name::{Date3, upper};
 use ados_volume::Volume;

@@ -7,8 +7,8 @@ ghost use Rattle.adf_text.specs.Letters.{letters};
 ghost use Rattle.adf_export.specs.Words.{AreAsked, LeadsTo, LeadTo, IsWordFault, IsFaultOfSome, IsLetterFault, IsRefusal};
 
 use crate::fault::OutFault;
+use adf_cli::Refused;
 use adf_text::{LettersFault, letter_bytes, letters_come_back};
-use adf_words::Refused;
 use ados_model::DosError;
 use ados_volume::{Volume, locate};
 use std::alloc::Global;

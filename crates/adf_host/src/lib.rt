@@ -1,4 +1,5 @@
-//! Files of the host: replaced whole, and locked. An image file is read whole, or piece by piece for its sketch.
+//! Files of the host: replaced whole, and locked; trees of files and directories, walked and written. An image file is read
+//! whole, or piece by piece for its sketch.
 #![tactic(auto)]
 
 mod beside;
@@ -21,6 +22,7 @@ mod replacing;
 mod sketched;
 mod standard;
 mod temporary;
+mod trees;
 mod unreadable;
 mod unwritable;
 
@@ -41,5 +43,10 @@ pub use prompt::{Machine, PromptFiles};
 pub use replacing::{ReplaceFault, replace_file, replace_found};
 pub use sketched::{read_sketch, sketch_image_below, sketch_image_file};
 pub use standard::{Stream, input_path};
+pub use trees::{
+    Contents, HostEntry, HostItem, HostKind, HostName, HostReader, HostTree, ItemKind, PassedOver,
+    PassedWhy, WalkFault, WriteFault, WriteWhy, date_of_time, dates_come_back, host_time,
+    host_tree, moment_of, note_name, noted_name, write_tree,
+};
 pub use unreadable::{ReadReason, why_no_image, why_no_image_below, why_unreadable};
 pub use unwritable::WriteReason;

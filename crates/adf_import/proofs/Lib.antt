@@ -14,7 +14,7 @@ pub mod Telling
 pub mod Keeping
 pub mod Putting
 pub mod Advancing
-pub mod Fronts
+pub mod MissingAbove
 pub mod Parts
 pub mod Reaching
 pub mod Naming

@@ -14,7 +14,7 @@ use Rattle.ados_name.specs.Name.{Step, Step.ToChild, Step.ToParent, front, is_co
 use Rattle.std.proofs.lemmas.List.Splits.{length-slice_split, slice_split_at, slice_split_none}
 use Rattle.adf_import.specs.Ways.{ends_front, fronts_before}
 use Rattle.adf_import.specs.steps.Reached.{IsBegin, IsClosed}
-use Rattle.adf_import.proofs.Fronts.{no_front}
+use Rattle.adf_import.proofs.MissingAbove.{no_front}
 
 -- a byte of a list that has none that passes
 pub lacks : (p : ℕ → Bool) (xs : List ℕ) → list_any p xs ≡ false → (k : ℕ) → k < length xs → p (get_or xs k 0) ≡ false

@@ -23,7 +23,7 @@ use Rattle.adf_import.specs.Ways.{ends_front, fronts, fronts_before}
 use Rattle.adf_import.specs.declared.ways.Reached.{Reached}
 use Rattle.adf_import.specs.steps.Reached.{IsBegin, IsClosed, IsMissing, IsReached, Leads}
 use Rattle.adf_import.proofs.Finding.{at_found, changed_from}
-use Rattle.adf_import.proofs.Fronts.{front_more, front_none, front_stops}
+use Rattle.adf_import.proofs.MissingAbove.{front_more, front_none, front_stops}
 use Rattle.adf_import.proofs.Parts.{closed_behind, empty_steps, front_is, last_step, steps_before, steps_behind, taken, whole, whole_slash}
 
 there_is : {E : Type 0} (o : Option ℕ) (fault : E) (key : ℕ) → ok_or o fault ≡ Ok key → o ≡ Some key

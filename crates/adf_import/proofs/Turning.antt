@@ -2,7 +2,7 @@
 use Rattle.std.proofs.Common.{◌≡◌, Bor, ℕ, ◌+◌, ◌<◌, Result, Ok, Err, List, [], ◌∷◌, ◌++◌, length, get_or, map, take, drop, Contains, refl, sym, ap, ◌∙◌, subst, arith}
 use Rattle.adf_import.proofs.Common.{chars, Contains-get_or, DosError, HasTree, Shown, InFault, AreDone, AtWord, EndsAt, EndsInTurn, ReadsFirst}
 use Rattle.std.proofs.lemmas.List.{drop_more, get_or-map, length-map, map-append, take-append-drop, take_more}
-use Rattle.adf_words.specs.declared.refused.Refused.{Refused as Told}
+use Rattle.adf_cli.specs.declared.refused.Refused.{Refused as Told}
 use Rattle.adf_import.specs.declared.fault.InFault.TheVariants.{Letter, Memory, Refused}
 use Rattle.adf_import.specs.Turns.AreDone.{one_more}
 use Rattle.adf_import.specs.Words.{IsForeign, IsLetterFault, IsLetterFaultIn, IsRefusal}

@@ -11,8 +11,8 @@ use Rattle.ados_model.specs.Tree.{Tree}
 use Rattle.ados_model.specs.Tree.Content.{Directory}
 use Rattle.ados_model.specs.Parts.{IsUnused}
 use Rattle.ados_volume.specs.Shown.{Shown}
-use Rattle.adf_words.specs.declared.change.Change.{Change}
-use Rattle.adf_words.specs.declared.change.Change.TheVariants.{Add, AddAs, Comment, Date, Delete, MakeDirectories, Protect, Relabel, Rename}
+use Rattle.adf_cli.specs.declared.change.Change.{Change}
+use Rattle.adf_cli.specs.declared.change.Change.TheVariants.{Add, AddAs, Comment, Date, Delete, MakeDirectories, Protect, Relabel, Rename}
 use Rattle.adf_text.specs.declared.protect_words.Form.{Form}
 use Rattle.adf_text.specs.ProtectWords.{protect_word}
 use Rattle.adf_import.specs.Changes.{Changes, reprotected}

@@ -5,7 +5,7 @@ use Rattle.std.specs.String.{string_bytes}
 use Rattle.ados_model.specs.declared.dos_error.DosError.{DosError}
 use Rattle.ados_model.specs.Keys.{HasTree}
 use Rattle.ados_volume.specs.Shown.{Shown}
-use Rattle.adf_words.specs.declared.refused.Refused.{Refused as Told}
+use Rattle.adf_cli.specs.declared.refused.Refused.{Refused as Told}
 use Rattle.adf_import.specs.declared.fault.InFault.{InFault}
 use Rattle.adf_import.specs.declared.fault.InFault.TheVariants.{Letter, Memory, Refused}
 use Rattle.adf_import.specs.Words.{IsForeign}

@@ -3,10 +3,10 @@
 use crate::fault::{FileWhy, InFault, unusable};
 use crate::host_files::{read_host, unopened};
 use adf_block::layout::BLOCK_BYTES;
+use adf_host::{HeldTree, OpenFault, OwnedFile, PromptFiles};
 use adf_record::{Bundle, BundleEntry};
 use adf_text::host_name;
 use ados_name::Name;
-use host_trees::{HeldTree, OpenFault, OwnedFile, PromptFiles};
 use std::alloc::{AllocError, Global};
 use std::fs::OpenFile;
 use std::io::{ErrorKind, Read};
@@ -31,22 +31,35 @@ where
     let mut contents = Vec::new(alloc);
     let mut room = bundle.head.blocks as u64 * BLOCK_BYTES as u64;
     for entry in bundle.entries.iter() {
-        let below = below_path(alloc, &bundle.entries, entry)?;
-        let path = format!(in alloc; "{directory}/{below}")?;
-        let bytes = match entry.size {
-            Some(size) => match tree.open(rt, alloc, below.as_str()) {
-                Ok(file) => read_file(alloc, file, path.as_str(), size, room)?,
-                Err(fault) => return Err(unopened(alloc, path.as_str(), fault)),
-            },
-            None => {
-                refuse_no_directory(rt, alloc, tree, below.as_str(), path.as_str())?;
-                Vec::new(alloc)
-            }
-        };
+        let place = host_place(alloc, directory, &bundle.entries, entry)?;
+        let bytes = entry_bytes(rt, alloc, tree, &place, entry.size, room)?;
         room = room.saturating_sub(bytes.len() as u64);
         contents.push(bytes)?;
     }
     Ok(contents)
+}
+
+/// The bytes of an entry with this size at its place on the host, if there is so much room. A directory has no size.
+fn entry_bytes<R: PromptFiles>(
+    rt: &R,
+    alloc: Global,
+    tree: &mut HeldTree<R::File>,
+    place: &HostPlace,
+    size: Option<u32>,
+    room: u64,
+) -> Result<Vec<u8>, InFault>
+where
+    R::File: OwnedFile,
+{
+    let (below, path) = (place.below.as_str(), place.path.as_str());
+    let Some(size) = size else {
+        refuse_no_directory(rt, alloc, tree, below, path)?;
+        return Ok(Vec::new(alloc));
+    };
+    match tree.open(rt, alloc, below) {
+        Ok(file) => read_file(alloc, file, path, size, room),
+        Err(fault) => Err(unopened(alloc, path, fault)),
+    }
 }
 
 /// The bytes of an open file with this size, if there is so much room.
@@ -102,6 +115,27 @@ where
     }
 }
 
+/// Where an entry of a bundle is on the host.
+#[derive(Drop)]
+struct HostPlace {
+    /// Its path below the directory of the bundle.
+    below: String,
+    /// Its whole path.
+    path: String,
+}
+
+/// Where an entry of a bundle is on the host.
+fn host_place(
+    alloc: Global,
+    directory: &str,
+    entries: &[BundleEntry],
+    entry: &BundleEntry,
+) -> Result<HostPlace, AllocError> {
+    let below = below_path(alloc, entries, entry)?;
+    let path = format!(in alloc; "{directory}/{below}")?;
+    Ok(HostPlace { below, path })
+}
+
 /// The path on the host of an entry of a bundle.
 pub(crate) fn host_path(
     alloc: Global,
@@ -109,8 +143,8 @@ pub(crate) fn host_path(
     entries: &[BundleEntry],
     entry: &BundleEntry,
 ) -> Result<String, AllocError> {
-    let below = below_path(alloc, entries, entry)?;
-    format!(in alloc; "{directory}/{below}")
+    let place = host_place(alloc, directory, entries, entry)?;
+    Ok(place.path)
 }
 
 /// The path of an entry of a bundle below the directory of the bundle.

@@ -9,10 +9,10 @@ use crate::item::How;
 use crate::one_file::{StandardInput, Target, add_as};
 use crate::paths::EntryChange;
 use crate::single::{rename, set_bits, set_comment};
-use adf_words::Change;
+use adf_cli::Change;
+use adf_host::{OwnedFile, PassedOver, PromptFiles};
 use ados_name::Date3;
 use ados_volume::Volume;
-use host_trees::{OwnedFile, PassedOver, PromptFiles};
 use std::alloc::Global;
 
 /// Makes a change with this time stamp. For `add`, it returns what was skipped.

@@ -3,10 +3,10 @@
 ghost use Rattle.adf_import.specs.Words.{IsRefusal};
 
 use crate::name_why::NameWhy;
+use adf_cli::Refused;
+use adf_host::{ReadReason, WalkFault};
 use adf_record::{BundleFault, Grouped};
-use adf_words::Refused;
 use ados_model::DosError;
-use host_trees::{ReadReason, WalkFault};
 use std::alloc::{AllocError, AllocFailed, Global};
 use thiserror::Error;
 

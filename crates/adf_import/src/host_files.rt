@@ -3,13 +3,13 @@
 use crate::fault::{FileWhy, InFault, SourceFault, refused, unusable};
 use crate::item::Content;
 use crate::name_why::NameWhy;
+use adf_host::{HostEntry, HostReader, OpenFault, OwnedFile, PromptFiles, ReadReason};
 use adf_io::{InputFault, read_bounded};
 use adf_text::{LettersFault, Uaem, UaemFault, host_name_bytes, letter_text, read_uaem};
 use ados_data::blocks_of;
 use ados_model::DosError;
 use ados_name::{Comment, Date3, Name, Protect};
 use ados_volume::Volume;
-use host_trees::{HostEntry, HostReader, OpenFault, OwnedFile, PromptFiles, ReadReason};
 use std::alloc::Global;
 use std::fs::OpenFile;
 use std::io::{ErrorKind, Read};

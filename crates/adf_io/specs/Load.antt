@@ -3,7 +3,7 @@ use Rattle.std.specs.Prelude.{◌≡◌, ℕ, List, length, take, Option, ⊤}
 use Rattle.std.specs.Io.KnownBytes.{Consumes, IsAtEnd}
 use Rattle.adf_block.specs.Size.{IsSizeFault}
 use Rattle.adf_block.specs.declared.volume_size.SizeRefused.{SizeRefused}
-use Rattle.adf_io.specs.Front.{GivesNoEnd}
+use Rattle.adf_io.specs.Input.{GivesNoEnd}
 use Rattle.adf_io.specs.declared.input.InputFault.{InputFault}
 use Rattle.adf_io.specs.declared.input.InputFault.TheVariants as input
 use Rattle.adf_io.specs.declared.load.LoadFault.{LoadFault}

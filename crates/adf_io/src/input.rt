@@ -1,6 +1,6 @@
 //! Input read to its end or to a bound.
 ghost use Rattle.std.specs.Prelude.{◌≡◌, ◌≤◌, length, IfOk};
-ghost use Rattle.adf_io.specs.Front.{GivesNoEnd, ReadsCounted, ReadsFront, ReadsUpTo};
+ghost use Rattle.adf_io.specs.Input.{GivesNoEnd, ReadsCounted, ReadsFront, ReadsUpTo};
 ghost use Rattle.adf_io.specs.steps.Reads.{GivesOn, ReadsOn, ReadsRest};
 
 use crate::part::{read_part, read_some};

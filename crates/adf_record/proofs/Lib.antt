@@ -1,4 +1,4 @@
--- Lemmas about tokens, about texts in pieces, about the entries of a bundle, about the lines of its text, and about equal lists.
+-- Lemmas about tokens, about texts in pieces, about the entries of a bundle, about the lines of its text, about equal lists, and about numbers of blocks.
 pub mod Common
 pub mod Tokens
 pub mod Pieces
@@ -6,3 +6,5 @@ pub mod Entries
 pub mod Lines
 pub mod Mapped
 pub mod Written
+pub mod Numbering
+pub mod Losing

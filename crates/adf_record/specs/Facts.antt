@@ -5,6 +5,7 @@ use Rattle.ados_model.specs.Tree.{Tree, free, name_of, root}
 use Rattle.adf_block.specs.BootCode.{IsBootCode}
 use Rattle.adf_record.specs.declared.facts.Facts.{Facts}
 use Rattle.adf_record.specs.Counts.{AreCounts}
+use Rattle.adf_record.specs.Lost.{AreLost}
 
 -- these are the facts of the volume with this image and this tree, whose bitmap was rebuilt or not
 pub record AreFacts (image : List ℕ) (rebuilt : Bool) (t : Tree) (facts : Facts) : Type 0 where
@@ -18,3 +19,4 @@ pub record AreFacts (image : List ℕ) (rebuilt : Bool) (t : Tree) (facts : Fact
   pub created : facts.created ≡ t.creation_date
   pub changed : facts.changed ≡ t.disk_date
   pub boot : IsBootCode image facts.boot
+  pub lost : AreLost image t facts.lost

@@ -3,10 +3,11 @@ pub mod Members
 pub mod Bundle
 pub mod Second
 pub mod Counts
+pub mod Lost
 pub mod Facts
 pub mod Shown
 pub mod Object
 pub mod BootObject
-pub mod Told
+pub mod Forms
 pub mod Described
 pub mod steps

@@ -39,9 +39,15 @@ abbrev pub end_tokens : Facts → List ℕ → List ℕ → List Token
 end_tokens facts created changed =
     key (codes "created") ∷ string created ∷ key (codes "changed") ∷ string changed ∷ key (codes "boot") ∷ string (boot_word facts.boot) ∷ []
 
+-- the lost blocks, and the headers of files and of directories among them
+abbrev pub lost_tokens : Facts → List Token
+lost_tokens facts =
+    key (codes "lost") ∷ number (decimal facts.lost.blocks) ∷ key (codes "lost_files") ∷ number (decimal facts.lost.files)
+    ∷ key (codes "lost_directories") ∷ number (decimal facts.lost.directories) ∷ []
+
 abbrev pub object_tokens : Facts → List ℕ → List ℕ → List Token
 object_tokens facts created changed =
-    begin_object ∷ front_tokens facts ++ amount_tokens facts ++ end_tokens facts created changed ++ end_object ∷ []
+    begin_object ∷ front_tokens facts ++ amount_tokens facts ++ end_tokens facts created changed ++ lost_tokens facts ++ end_object ∷ []
 
 -- the text is the line with the object of these facts
 abbrev pub IsFactsObject : Facts → List ℕ → Type 0

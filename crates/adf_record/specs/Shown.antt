@@ -7,6 +7,7 @@ use Rattle.adf_block.specs.BootText.{code_line}
 use Rattle.adf_text.specs.Letters.{letters}
 use Rattle.adf_text.specs.Plain.{plain}
 use Rattle.adf_record.specs.declared.facts.Facts.{Facts}
+use Rattle.adf_record.specs.declared.lost.LostBlocks.{LostBlocks}
 use Rattle.adf_record.specs.Second.{IsSecondOf}
 
 -- a number with a comma before its last three digits, if it has more than three
@@ -57,6 +58,30 @@ contents_line facts =
     ++ counted facts.counts.directories (codes "directory") (codes "directories") ++ codes ", "
     ++ grouped (facts.used / 2) ++ codes " KB used, " ++ grouped (facts.free / 2) ++ codes " KB free\n"
 
+-- a number of directories
+abbrev pub directory_words : ℕ → List ℕ
+directory_words n = counted n (codes "directory") (codes "directories")
+
+-- the directories among the lost blocks, behind a number of files; nothing if there are none
+abbrev pub and_directories : ℕ → List ℕ
+and_directories n = if n == 0 then [] else codes " and " ++ directory_words n
+
+-- the directories among the lost blocks, without files
+abbrev pub lost_directories : ℕ → List ℕ
+lost_directories n = if n == 0 then [] else codes ", " ++ directory_words n ++ codes " among them"
+
+-- the files and the directories among the lost blocks, as far as there are some
+abbrev pub lost_headers : ℕ → ℕ → List ℕ
+lost_headers files directories =
+    if files == 0 then lost_directories directories
+    else codes ", " ++ counted files (codes "file") (codes "files") ++ and_directories directories ++ codes " among them"
+
+-- the line for the lost blocks and the headers among them; there is none if no block is lost
+abbrev pub lost_line : LostBlocks → List ℕ
+lost_line lost =
+    if lost.blocks == 0 then []
+    else counted lost.blocks (codes "lost block") (codes "lost blocks") ++ lost_headers lost.files lost.directories ++ codes "\n"
+
 -- the line with both dates
 abbrev pub dates_line : List ℕ → List ℕ → List ℕ
 dates_line created changed = codes "created " ++ created ++ codes ", changed " ++ changed ++ codes "\n"
@@ -66,8 +91,8 @@ abbrev pub PushesDates : List ℕ → List ℕ → Date3 → Date3 → Type 0
 PushesDates old new created changed =
     (first : List ℕ) × (last : List ℕ) × IsSecondOf created first × IsSecondOf changed last × (new ≡ old ++ dates_line first last)
 
--- the text is that of these facts: the line of the volume, of its contents, of its dates and of its boot block
+-- the text is that of these facts: the line of the volume, of its contents, of its lost blocks, of its dates and of its boot block
 abbrev pub IsFactsText : Bool → Facts → List ℕ → Type 0
 IsFactsText styled facts text =
     (created : List ℕ) × (changed : List ℕ) × IsSecondOf facts.created created × IsSecondOf facts.changed changed
-    × (text ≡ label_text styled facts.label ++ volume_words facts ++ contents_line facts ++ dates_line created changed ++ code_line facts.boot)
+    × (text ≡ label_text styled facts.label ++ volume_words facts ++ contents_line facts ++ lost_line facts.lost ++ dates_line created changed ++ code_line facts.boot)

@@ -6,6 +6,7 @@ ghost use Rattle.adf_record.specs.Facts.{AreFacts};
 
 use crate::bundling::root_date;
 use crate::counts::{Counts, counts_of};
+use crate::lost::{LostBlocks, lost_blocks};
 use adf_block::layout::{CREATION_DATE, DISK_DATE};
 use adf_block::{BootCode, Format, boot_code};
 use ados_name::{Date3, Name};
@@ -29,6 +30,8 @@ pub struct Facts {
     /// When the volume was last changed.
     pub changed: Date3,
     pub boot: BootCode,
+    /// The blocks in use that belong to nothing.
+    pub lost: LostBlocks,
 }
 
 /// The facts of a volume.
@@ -36,6 +39,7 @@ pub fn facts_of(alloc: Global, volume: &Volume) -> Result<Facts, AllocError>
     ensures { IfOk result (λ facts. (t : Tree) → Stands volume.now.image t → AreFacts volume.now.image volume.now.was_validated t facts) }
 {
     let counts = counts_of(alloc, volume)?;
+    let lost = lost_blocks(alloc, volume)?;
     let image = volume.image();
     Ok(Facts {
         label: volume.examine(volume.root()).name,
@@ -48,5 +52,6 @@ pub fn facts_of(alloc: Global, volume: &Volume) -> Result<Facts, AllocError>
         created: root_date(volume, CREATION_DATE),
         changed: root_date(volume, DISK_DATE),
         boot: boot_code(image),
+        lost,
     })
 }

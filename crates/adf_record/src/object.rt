@@ -1,6 +1,6 @@
 //! The facts of a volume as a JSON object.
 ghost use Rattle.std.specs.Prelude.{◌≡◌, ◌++◌, IfOk, OnOk};
-ghost use Rattle.adf_record.specs.Object.{IsFactsObject, object_tokens, front_tokens, amount_tokens, end_tokens};
+ghost use Rattle.adf_record.specs.Object.{IsFactsObject, object_tokens, front_tokens, amount_tokens, end_tokens, lost_tokens};
 
 use crate::facts::Facts;
 use crate::members::{put_flag, put_number, put_text};
@@ -43,6 +43,7 @@ fn put_object(
     put_front(alloc, writer, facts)?;
     put_amounts(writer, facts)?;
     put_end(writer, facts, created, changed)?;
+    put_lost(writer, facts)?;
     writer.end_object()
 }
 
@@ -82,4 +83,18 @@ fn put_end(
     put_text(writer, "created", Some(created))?;
     put_text(writer, "changed", Some(changed))?;
     put_text(writer, "boot", Some(boot_word(facts.boot)))
+}
+
+/// Writes how many blocks are lost, and how many headers of files and of directories are among them.
+fn put_lost(writer: &mut Writer, facts: &Facts) -> Result<(), AllocError>
+    ensures before { writer.new.before ≡ writer.old.before }
+    ensures tokens { OnOk result (writer.new.tokens ≡ writer.old.tokens ++ lost_tokens facts.now) }
+{
+    put_number(writer, "lost", Some(facts.lost.blocks as u64))?;
+    put_number(writer, "lost_files", Some(facts.lost.files as u64))?;
+    put_number(
+        writer,
+        "lost_directories",
+        Some(facts.lost.directories as u64),
+    )
 }

@@ -4,13 +4,14 @@ ghost use Rattle.adf_record.specs.Shown.{IsFactsText, PushesDates, contents_line
 
 use crate::contents::{contents_line, volume_words};
 use crate::facts::Facts;
+use crate::lost_line::lost_line;
 use crate::second::push_second;
 use adf_block::code_line;
 use adf_text::{letter_text, push_plain};
 use std::alloc::{AllocError, Global};
 
-/// The facts of a volume as text: a line for the volume, one for what is in it, one for its dates, and one for its boot
-/// block. With `styled` the label is bold on a terminal.
+/// The facts of a volume as text: a line for the volume, one for what is in it, one for its lost blocks if there are some, one
+/// for its dates, and one for its boot block. With `styled` the label is bold on a terminal.
 pub(crate) fn facts_text(alloc: Global, facts: &Facts, styled: bool) -> Result<Vec<u8>, AllocError>
     ensures { IfOk result (λ text. IsFactsText styled facts.now text.items) }
 {
@@ -18,6 +19,7 @@ pub(crate) fn facts_text(alloc: Global, facts: &Facts, styled: bool) -> Result<V
     push_label(alloc, &mut text, facts.label.bytes(), styled)?;
     text.extend_from_slice(volume_words(alloc, facts)?.as_bytes())?;
     text.extend_from_slice(contents_line(alloc, facts)?.as_bytes())?;
+    text.extend_from_slice(lost_line(alloc, facts.lost)?.as_bytes())?;
     push_dates(alloc, &mut text, facts)?;
     text.extend_from_slice(code_line(facts.boot).as_bytes())?;
     Ok(text)

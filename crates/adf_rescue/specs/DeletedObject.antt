@@ -1,9 +1,9 @@
 -- A deleted entry as a JSON object.
 use Rattle.std.specs.Prelude.{ℕ, List, [], ◌∷◌, ◌++◌, drop, codes, decimal, Option, Some, None, option_map}
 use Rattle.json.specs.Token.{Token, begin_object, end_object, key, number, string}
-use Rattle.ados_sound.specs.declared.deleted.Deleted.{Deleted}
-use Rattle.ados_sound.specs.declared.deleted.Recovery.{Recovery}
-use Rattle.ados_sound.specs.declared.deleted.Recovery.TheVariants.{Directory, Free, Used, Shared, NotIntact}
+use Rattle.ados_salvage.specs.declared.known.deleted.Deleted.{Deleted}
+use Rattle.ados_salvage.specs.declared.known.deleted.Recovery.{Recovery}
+use Rattle.ados_salvage.specs.declared.known.deleted.Recovery.TheVariants.{Directory, Free, Used, Shared, NotIntact}
 use Rattle.adf_text.specs.Letters.{letters}
 use Rattle.adf_record.specs.Members.{number_token, string_token}
 

@@ -1,19 +1,19 @@
 -- The report on a damaged image after everything that can be trusted was written.
-use Rattle.std.specs.Prelude.{◌≡◌, ◌<◌, ℕ, Bool, true, false, List, [], ◌∷◌, ◌++◌, ◌==◌, codes, decimal, length, Option, Some, None, if◌then◌else◌, ⊤}
-use Rattle.adf_block.specs.Fields.{format_of}
-use Rattle.adf_salvage.specs.Holes.{SalvagesBeside}
-use Rattle.adf_salvage.specs.Salvaged.{Saved}
-use Rattle.adf_salvage.specs.declared.salvaged.HeaderState.TheVariants as heads
-use Rattle.adf_salvage.specs.declared.salvaged.Salvaged.{Salvaged}
-use Rattle.adf_salvage.specs.declared.salvaged.State.{State}
-use Rattle.adf_salvage.specs.declared.salvaged.State.TheVariants.{Directory, DoubtfulDirectory, Whole, Doubtful, Lost, Broken}
-use Rattle.adf_salvage.specs.Saved.{HasBytes, IsAt}
-use Rattle.adf_account.specs.Account.{AreUnaccounted}
-use Rattle.adf_rescue.specs.RescueObject.{IsReportObject, has_sums}
+use Rattle.std.specs.Prelude.{◌≡◌, ◌<◌, ℕ, Bool, true, false, List, [], ◌∷◌, ◌++◌, ◌==◌, codes, flat_map, decimal, length, if◌then◌else◌, ⊤}
+use Rattle.ados_salvage.specs.Holes.{SalvagesBeside}
+use Rattle.ados_salvage.specs.Salvaged.{Saved}
+use Rattle.ados_salvage.specs.declared.salvaged.Salvaged.{Salvaged}
+use Rattle.ados_salvage.specs.declared.salvaged.State.{State}
+use Rattle.ados_salvage.specs.declared.salvaged.State.TheVariants.{Directory, DoubtfulDirectory, Whole, Doubtful, Lost, Broken}
+use Rattle.ados_salvage.specs.Saved.{HasBytes, IsAt}
+use Rattle.ados_salvage.specs.Account.{AreUnaccounted}
+use Rattle.adf_rescue.specs.Missing.{AreMissing}
+use Rattle.adf_rescue.specs.Paths.{ArePathsApart, files_from}
+use Rattle.adf_rescue.specs.Undelete.{file_in}
+use Rattle.adf_rescue.specs.RescueObject.{IsReportObject}
+use Rattle.adf_rescue.specs.Untrusted.{AreMarked}
 use Rattle.adf_rescue.specs.declared.sourced.Source.{Source}
 use Rattle.adf_rescue.specs.declared.sourced.Source.TheVariants.{File}
-use Rattle.adf_rescue.specs.declared.damaged.Doubt.{Doubt}
-use Rattle.adf_rescue.specs.declared.damaged.Doubt.TheVariants.{Header, Blocks, Gone, Cut}
 use Rattle.adf_rescue.specs.declared.damaged.Rescue.{Rescue}
 use Rattle.adf_rescue.specs.declared.damaged.RescueFault.{RescueFault}
 use Rattle.adf_rescue.specs.declared.damaged.RescueFault.TheVariants.{Host, Memory}
@@ -31,15 +31,6 @@ rescue_line found Lost path = found_word found ++ codes "lost " ++ path ++ codes
 rescue_line found Whole path = found_word found ++ codes "whole " ++ path ++ codes "\n"
 rescue_line found (Doubtful header length) path = found_word found ++ codes "doubtful " ++ path ++ codes "\n"
 rescue_line found (Broken missing cut length) path = found_word found ++ codes "broken " ++ decimal missing ++ codes " " ++ path ++ codes "\n"
-
--- why an entry is doubtful or cut short
-abbrev pub doubt_of : State → Option Doubt
-doubt_of DoubtfulDirectory = Some Header
-doubt_of (Doubtful heads.Sound length) = Some Blocks
-doubt_of (Doubtful heads.Doubtful length) = Some Header
-doubt_of (Doubtful heads.Gone length) = Some Gone
-doubt_of (Broken missing true length) = Some Cut
-doubt_of _ = None
 
 -- the line of an entry at some host path
 abbrev pub IsRescueLine : Bool → State → List ℕ → Type 0
@@ -68,35 +59,36 @@ abbrev pub AreReportLines : List Salvaged → ℕ → List ℕ → List ℕ → 
 AreReportLines entries deleted unaccounted text =
     (lines : List ℕ) × AreLines entries lines × (text ≡ lines ++ (deleted_count_line deleted ++ unaccounted_count_line (length unaccounted)))
 
--- whether the data blocks of the image have checksums
-abbrev pub is_summed : Saved → Bool
-is_summed saved = has_sums (format_of saved.image)
-
 -- the report on what was saved and on the blocks that are used and belong to nothing of it: as lines, or with `json` as an object
-abbrev pub IsTold : Bool → Saved → List ℕ → List ℕ → Type 0
-IsTold false saved unaccounted text = AreReportLines saved.entries (length saved.deleted) unaccounted text
-IsTold true saved unaccounted text = IsReportObject saved.entries (length saved.deleted) unaccounted (is_summed saved) text
+abbrev pub IsTold : Bool → Rescue → List ℕ → Type 0
+IsTold false rescue text = AreReportLines rescue.salvage.entries (length rescue.salvage.deleted) rescue.unaccounted.items text
+IsTold true rescue text = IsReportObject rescue text
 
 -- that report, and the image was accepted or not
-pub record AreRescued (json : Bool) (saved : Saved) (unaccounted : List ℕ) (accepted : Bool) (text : List ℕ) : Type 0 where
-  pub accepts : saved.accepted ≡ accepted
-  pub told : IsTold json saved unaccounted text
+pub record AreRescued (json : Bool) (rescue : Rescue) (accepted : Bool) (text : List ℕ) : Type 0 where
+  pub accepts : rescue.salvage.accepted ≡ accepted
+  pub told : IsTold json rescue text
 
-abbrev pub AreSomeRescued : Bool → Saved → List ℕ → List ℕ → Type 0
-AreSomeRescued json saved unaccounted text = (accepted : Bool) × AreRescued json saved unaccounted accepted text
+abbrev pub AreSomeRescued : Bool → Rescue → List ℕ → Type 0
+AreSomeRescued json rescue text = (accepted : Bool) × AreRescued json rescue accepted text
 
--- everything in an image with these holes that can be trusted, and the blocks that are used and belong to nothing of it
-abbrev pub IsRescue : List Bool → List ℕ → Rescue → Type 0
-IsRescue holes image rescue = SalvagesBeside holes image rescue.salvage × AreUnaccounted rescue.salvage rescue.unaccounted.items
+-- everything in an image with these holes that can be trusted, and the blocks that are used and belong to nothing of it; of each entry its
+-- missing data blocks, and whether it would be a deleted one by a bitmap that cannot be trusted. Each file is written, once, and no two
+-- files, directories or notes to one path
+pub record IsRescue (holes : List Bool) (image : List ℕ) (rescue : Rescue) : Type 0 where
+  pub salvaged : SalvagesBeside holes image rescue.salvage
+  pub unaccounted : AreUnaccounted rescue.salvage rescue.unaccounted.items
+  pub missing : AreMissing rescue.salvage rescue.missing.items
+  pub untrusted : AreMarked rescue.salvage rescue.untrusted.items
+  pub paths : ArePathsApart rescue.plan.out.items.items
+  pub files : flat_map file_in rescue.plan.out.sources.items ≡ files_from 0 rescue.salvage.entries
 
 -- the report on everything in an image with these holes that can be trusted and on the other used blocks, as lines or as an object; the
 -- image was accepted or not
 pub record IsReport (json : Bool) (holes : List Bool) (image : List ℕ) (accepted : Bool) (text : List ℕ) : Type 0 where
-  pub saved : Saved
-  pub salvaged : SalvagesBeside holes image saved
-  pub unaccounted : List ℕ
-  pub are_unaccounted : AreUnaccounted saved unaccounted
-  pub told : AreRescued json saved unaccounted accepted text
+  pub rescue : Rescue
+  pub rescued : IsRescue holes image rescue
+  pub told : AreRescued json rescue accepted text
 
 -- these are the bytes of an item: of a file, those of its entry
 abbrev pub HasSource : Saved → Source → List ℕ → Type 0

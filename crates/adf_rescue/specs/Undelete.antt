@@ -7,15 +7,16 @@ use Rattle.ados_name.specs.Name.{Step, steps, upper}
 use Rattle.ados_name.specs.Name.Step.{ToParent, ToChild}
 use Rattle.adf_text.specs.Letters.{letters}
 use Rattle.adf_text.specs.Plain.{plain}
-use Rattle.ados_sound.specs.Deleted.{IsTrustedBitmap}
-use Rattle.adf_salvage.specs.Salvaged.{ended}
-use Rattle.adf_salvage.specs.Undeleted.{IsRead, IsUndeleted}
-use Rattle.ados_sound.specs.declared.deleted.Deleted.{Deleted}
-use Rattle.ados_sound.specs.declared.deleted.Recovery.{Recovery}
-use Rattle.ados_sound.specs.declared.deleted.Recovery.TheVariants.{Directory, Free, Used, Shared, NotIntact}
-use Rattle.adf_salvage.specs.declared.salvaged.Salvaged.{Salvaged}
-use Rattle.adf_salvage.specs.declared.undeleted.Undeleted.{Undeleted}
+use Rattle.ados_salvage.specs.Deleted.{IsTrustedBitmap}
+use Rattle.ados_salvage.specs.Salvaged.{ended}
+use Rattle.ados_salvage.specs.Undeleted.{IsRead, IsUndeleted}
+use Rattle.ados_salvage.specs.declared.known.deleted.Deleted.{Deleted}
+use Rattle.ados_salvage.specs.declared.known.deleted.Recovery.{Recovery}
+use Rattle.ados_salvage.specs.declared.known.deleted.Recovery.TheVariants.{Directory, Free, Used, Shared, NotIntact}
+use Rattle.ados_salvage.specs.declared.salvaged.Salvaged.{Salvaged}
+use Rattle.ados_salvage.specs.declared.undeleted.Undeleted.{Undeleted}
 use Rattle.json.specs.Print.{print}
+use Rattle.adf_rescue.specs.Paths.{ArePathsApart}
 use Rattle.adf_rescue.specs.DeletedObject.{deleted_tokens, user_of}
 use Rattle.adf_rescue.specs.declared.chosen.Chosen.{Chosen}
 use Rattle.adf_rescue.specs.declared.placing.Placed.{Placed}
@@ -170,8 +171,8 @@ abbrev pub file_in : Source → List ℕ
 file_in (sources.File position) = position ∷ []
 file_in source = []
 
--- the entries that arguments with these paths choose among the deleted ones, and those of them that are written as files, with
--- what is told of them
+-- the entries that arguments with these paths choose among the deleted ones, and those of them that are written as files, no two of them
+-- to one path, with what is told of them
 pub record IsUndeletion (image : List ℕ) (keys : List (List ℕ)) (force json : Bool) (done : Undeletion) : Type 0 where
   pub read : List ℕ
   pub is_read : IsRead image read
@@ -180,6 +181,7 @@ pub record IsUndeletion (image : List ℕ) (keys : List (List ℕ)) (force json 
   pub chosen : done.chosen.items ≡ chosen_of done.found.places.items (places_of keys done.found.salvage.entries) done.found.deleted.items
   pub text : done.text.items ≡ deleted_text json done.found.places.items (places_of keys done.found.salvage.entries) done.chosen.items
   pub files : flat_map file_in done.plan.out.sources.items ≡ files_saved force done.chosen.items
+  pub paths : ArePathsApart done.plan.out.items.items
 
 -- what is told of the deleted entries of an image that arguments with these paths choose
 pub record IsUndeleteText (json : Bool) (image : List ℕ) (keys : List (List ℕ)) (text : List ℕ) : Type 0 where

@@ -1,3 +1,4 @@
--- Definitions for steps: the entries that an argument asks for, and the objects of a report, written one after the other.
+-- Paths that are looked up, items that are added, and the report while it is written.
 pub mod Asking
 pub mod Reporting
+pub mod Sourcing

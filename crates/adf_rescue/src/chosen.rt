@@ -3,7 +3,7 @@ ghost use Rattle.std.specs.Prelude.{◌≡◌, ◌++◌, ◌<◌, All, IfOk, OnO
 ghost use Rattle.adf_rescue.specs.Undelete.{chosen_at, chosen_of, is_file_saved, position_of, seen_place};
 
 use crate::placing::{Placed, place_at};
-use ados_sound::{Deleted, Recovery};
+use ados_salvage::{Deleted, Recovery};
 use std::alloc::{AllocError, Global};
 
 /// A deleted entry that an argument chooses.

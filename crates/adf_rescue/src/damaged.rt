@@ -1,22 +1,30 @@
 //! What can be trusted in a damaged image, as files and directories of the host.
-ghost use Rattle.std.specs.Prelude.{◌≡◌, IfErr, IfOk, OnErr, false, length, ◌||◌};
+ghost use Rattle.std.specs.Prelude.{◌≡◌, ◌<◌, ℕ, Bool, List, IfErr, IfOk, OnErr, flat_map, length, ◌||◌};
 ghost use Rattle.std.specs.String.{string_bytes};
 ghost use Rattle.adf_io.specs.Prefix.{Writes, WritesFrontOf};
-ghost use Rattle.adf_rescue.specs.Rescue.{AreRescued, AreSomeRescued, IsRescue, IsRescueFault, count_line, doubt_of, is_summed, rescue_line};
-ghost use Rattle.adf_rescue.specs.RescueObject.{is_told};
+ghost use Rattle.ados_salvage.specs.Marks.{mark_at};
+ghost use Rattle.ados_salvage.specs.Holes.{SalvagesBeside};
+ghost use Rattle.ados_salvage.specs.Saved.{IsAt};
+ghost use Rattle.adf_rescue.specs.Missing.{values_at};
+ghost use Rattle.adf_rescue.specs.Paths.{ArePathsApart, files_from};
+ghost use Rattle.adf_rescue.specs.Rescue.{AreRescued, AreSomeRescued, IsRescue, IsRescueFault, count_line, rescue_line};
+ghost use Rattle.adf_rescue.specs.RescueObject.{is_summed, is_told, written};
+ghost use Rattle.adf_rescue.specs.Undelete.{file_in};
 ghost use Rattle.adf_text.specs.Ranges.{ranges};
 ghost use Rattle.adf_rescue.specs.steps.Reporting.{IsPart, rest_of};
 
+use crate::doubt::{Doubt, doubt_of};
+use crate::missing::{Run, missing_runs};
+use crate::missing_text::missing_text;
 use crate::plan::Plan;
-use crate::rescue_object::{entry_object, front_text, is_told, rest_object};
-use adf_account::unaccounted_blocks;
+use crate::rescue_object::{Row, entry_object, front_text, is_told, rest_object};
+use crate::untrusted::untrusted_marks;
 use adf_block::{Format, Image};
-use adf_host::{OwnedFile, PromptFiles};
+use adf_cli::SalvageJob;
+use adf_host::{OwnedFile, PromptFiles, WriteFault};
 use adf_io::{PrintFault, write_text, write_when_long};
-use adf_salvage::{HeaderState, Salvage, Salvaged, State, salvage_beside};
 use adf_text::ranges_text;
-use adf_words::SalvageJob;
-use host_trees::WriteFault;
+use ados_salvage::{Salvage, Salvaged, State, salvage_beside, unaccounted_blocks};
 use std::alloc::{AllocError, Global};
 use std::io::Write;
 
@@ -27,6 +35,10 @@ pub struct Rescue {
     plan: Plan,
     /// The blocks that are used and belong to nothing of the salvage.
     unaccounted: Vec<u32>,
+    /// For each entry, the runs of its missing data blocks.
+    missing: Vec<Vec<Run>>,
+    /// For each entry, whether it would be a deleted one if the bitmap could be trusted.
+    untrusted: Vec<bool>,
 }
 
 /// Why a damaged image is neither told nor written.
@@ -34,6 +46,17 @@ pub struct Rescue {
 pub enum RescueFault {
     Host(WriteFault),
     Memory,
+}
+
+impl From<AllocError> for RescueFault {
+    ghost use Rattle.std.specs.Prelude.{◌≡◌};
+    ghost use Rattle.adf_rescue.specs.declared.damaged.RescueFault.TheVariants.{Memory};
+
+    ghost from_gives = { λ _ fault. fault ≡ Memory };
+
+    fn from(_error: AllocError) -> RescueFault {
+        RescueFault::Memory
+    }
 }
 
 /// Writes everything in an image with these holes that can be trusted below a directory of the host. With `meta`, a note is written
@@ -50,67 +73,33 @@ where
     ensures told { IfOk result (IsRescue holes.items image) }
     ensures fault { IfErr result (IsRescueFault job.now.list) }
 {
-    let rescue = match rescue_of(alloc, image, holes, job.meta) {
-        Ok(rescue) => rescue,
-        Err(_) => return Err(RescueFault::Memory),
-    };
-    if job.list {
-        return Ok(rescue);
+    let salvage = salvage_beside(alloc, image, holes)?;
+    let plan = Plan::of(alloc, &salvage, job.meta)?;
+    if !job.list {
+        if let Err(fault) = plan.out.write(rt, alloc, &salvage, job.to, false) {
+            return Err(RescueFault::Host(fault));
+        }
     }
-    let (out, salvage) = (&rescue.plan.out, &rescue.salvage);
-    match out.write(rt, alloc, salvage, job.to, false) {
-        Ok(()) => Ok(rescue),
-        Err(fault) => Err(RescueFault::Host(fault)),
-    }
+    Ok(rescue_of(alloc, salvage, plan)?)
 }
 
-/// What can be trusted in an image with these holes, the host files and directories for it, and the used blocks that belong to
-/// nothing of it.
-fn rescue_of(
-    alloc: Global,
-    image: Image,
-    holes: Vec<bool>,
-    meta: bool,
-) -> Result<Rescue, AllocError>
-    ensures { IfOk result (IsRescue holes.items image) }
+/// What was saved with these host files and directories, with what only the report needs: the used blocks that belong to nothing of
+/// it, the missing data blocks of its files, and what the bitmap says of its entries. So less memory is held while files are written.
+fn rescue_of(alloc: Global, salvage: Salvage, plan: Plan) -> Result<Rescue, AllocError>
+    requires paths { ArePathsApart plan.out.items.items }
+    requires files { flat_map file_in plan.out.sources.items ≡ files_from 0 salvage.entries }
+    ensures { IfOk result (λ rescue. (holes : List Bool) (image : List ℕ) → SalvagesBeside holes image salvage → IsRescue holes image rescue) }
 {
-    let salvage = salvage_beside(alloc, image, holes)?;
-    let plan = Plan::of(alloc, &salvage, meta)?;
     let unaccounted = unaccounted_blocks(alloc, &salvage)?;
+    let missing = missing_runs(alloc, &salvage)?;
+    let untrusted = untrusted_marks(alloc, &salvage)?;
     Ok(Rescue {
         salvage,
         plan,
         unaccounted,
+        missing,
+        untrusted,
     })
-}
-
-/// Why an entry is doubtful or cut short.
-#[derive(Clone, Copy)]
-pub enum Doubt {
-    /// Its header has a wrong checksum or too long a comment.
-    Header,
-    /// Its header is sound, but another of its blocks is not, or is named by another file too.
-    Blocks,
-    /// It has no header: it is what is left in the data blocks that name it.
-    Gone,
-    /// Its bytes end early, because of the limit for all files that are not whole.
-    Cut,
-}
-
-/// Why an entry with this state is doubtful or cut short, if it is.
-fn doubt_of(state: State) -> Option<Doubt>
-    ensures { result ≡ doubt_of state }
-{
-    match state {
-        State::DoubtfulDirectory => Some(Doubt::Header),
-        State::Doubtful { header, .. } => Some(match header {
-            HeaderState::Sound => Doubt::Blocks,
-            HeaderState::Doubtful => Doubt::Header,
-            HeaderState::Gone => Doubt::Gone,
-        }),
-        State::Broken { cut: true, .. } => Some(Doubt::Cut),
-        _ => None,
-    }
 }
 
 impl Rescue {
@@ -148,6 +137,57 @@ impl Rescue {
         }
     }
 
+    /// The path of the entry at a position, or in its place `the entry at block N`, and which of its bytes and data blocks are missing, if
+    /// some are: `bytes 976 to 1951 are missing (data 2 and 3)`.
+    pub fn missing_at(
+        &self,
+        alloc: Global,
+        place: usize,
+    ) -> Result<Option<(String, String)>, AllocError> {
+        let runs = self.runs_at(place);
+        match self.salvage.entries().get(place) {
+            Some(entry) if !runs.is_empty() => {
+                let text = missing_text(alloc, self.salvage.image(), entry.header, runs)?;
+                Ok(Some((self.path_at(alloc, place)?, text)))
+            }
+            _ => Ok(None),
+        }
+    }
+
+    /// The runs of the missing data blocks of the entry at a position.
+    fn runs_at(&self, place: usize) -> &[Run]
+        ensures { result.now ≡ values_at self.now.missing.items place }
+    {
+        match self.missing.get(place) {
+            Some(runs) => runs.as_slice(),
+            None => &[],
+        }
+    }
+
+    /// Whether the entry at a position would be a deleted one if the bitmap could be trusted.
+    fn is_untrusted_at(&self, place: usize) -> bool
+        ensures { result ≡ mark_at self.now.untrusted.items place }
+    {
+        match self.untrusted.get(place) {
+            Some(mark) => *mark,
+            None => false,
+        }
+    }
+
+    /// The number of bytes of the entry at a position that are written, if it is a file.
+    fn written_at(&self, place: usize, entry: &Salvaged) -> Option<u64>
+        requires inside { place < length self.now.salvage.entries }
+        requires at { IsAt self.now.salvage.entries place entry.now }
+        ensures { result ≡ written self.now.salvage.image entry.now.header entry.now.state }
+    {
+        match entry.state {
+            State::Directory | State::DoubtfulDirectory | State::Lost => None,
+            State::Whole | State::Doubtful { .. } | State::Broken { .. } => {
+                Some(self.salvage.size_of(place) as u64)
+            }
+        }
+    }
+
     /// The host path of the entry at a position. If it has more than 4,095 bytes, the entry is told by its header's block.
     fn path_at(&self, alloc: Global, place: usize) -> Result<String, AllocError> {
         if let Some(path) = self.plan.path_of(alloc, place)? {
@@ -180,8 +220,8 @@ impl Rescue {
         json: bool,
         writer: &mut W,
     ) -> Result<bool, PrintFault>
-        ensures ok { IfOk result (λ accepted. Writes (W.contents writer.old) (W.contents writer.new) (AreRescued json self.now.salvage self.now.unaccounted.items accepted)) }
-        ensures front { OnErr result (WritesFrontOf (W.contents writer.old) (W.contents writer.new) (AreSomeRescued json self.now.salvage self.now.unaccounted.items)) }
+        ensures ok { IfOk result (λ accepted. Writes (W.contents writer.old) (W.contents writer.new) (AreRescued json self.now accepted)) }
+        ensures front { OnErr result (WritesFrontOf (W.contents writer.old) (W.contents writer.new) (AreSomeRescued json self.now)) }
     {
         let entries = self.salvage.entries();
         let mut text = front_text(alloc, json)?;
@@ -207,7 +247,9 @@ impl Rescue {
         entry: &Salvaged,
         after: bool,
     ) -> Result<Vec<u8>, AllocError>
-        ensures { IfOk result (λ part. IsPart json after entry.now.found entry.now.state part.items) }
+        requires inside { place < length self.now.salvage.entries }
+        requires at { IsAt self.now.salvage.entries place entry.now }
+        ensures { IfOk result (λ part. IsPart json self.now after place entry.now part.items) }
     {
         let (found, state) = (entry.found, entry.state);
         if !is_told(state, found) {
@@ -215,16 +257,36 @@ impl Rescue {
         }
         let path = self.path_at(alloc, place)?;
         if json {
-            return entry_object(alloc, found, state, path.as_str(), after);
+            let row = self.row_at(place, entry);
+            return entry_object(alloc, &row, path.as_str(), after);
         }
         let line = line_of_path(alloc, found, state, path.as_str())?;
         Ok(line.into_bytes())
     }
 
+    /// The entry at a position, with what its object says.
+    fn row_at<'a>(&'a self, place: usize, entry: &'a Salvaged) -> Row<'a>
+        requires inside { place < length self.now.salvage.entries }
+        requires at { IsAt self.now.salvage.entries place entry.now }
+        ensures image { result.image.now ≡ self.now.salvage.image }
+        ensures entry { result.entry.now ≡ entry.now }
+        ensures size { result.size ≡ written self.now.salvage.image entry.now.header entry.now.state }
+        ensures deleted { result.deleted ≡ mark_at self.now.untrusted.items place }
+        ensures missing { result.missing.now ≡ values_at self.now.missing.items place }
+    {
+        Row {
+            image: self.salvage.image(),
+            entry,
+            size: self.written_at(place, entry),
+            deleted: self.is_untrusted_at(place),
+            missing: self.runs_at(place),
+        }
+    }
+
     /// What is behind the entries: the line with the number of deleted entries, and that with the number of used blocks that belong
     /// to nothing; or with `json` the rest of the object.
     fn rest_text(&self, alloc: Global, json: bool) -> Result<Vec<u8>, AllocError>
-        ensures { IfOk result (λ text. text.items ≡ rest_of json (length self.now.salvage.deleted) self.now.unaccounted.items (is_summed self.now.salvage)) }
+        ensures { IfOk result (λ text. text.items ≡ rest_of json self.now) }
     {
         if json {
             let deleted = self.salvage.deleted().len() as u64;

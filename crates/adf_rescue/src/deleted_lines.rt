@@ -8,7 +8,7 @@ use crate::chosen::{Chosen, position_of};
 use crate::deleted_objects::push_object;
 use crate::placing::{Placed, place_at};
 use adf_text::{letter_text, push_plain};
-use ados_sound::Recovery;
+use ados_salvage::Recovery;
 use std::alloc::{AllocError, Global};
 
 /// The entries of an image, by their headers.

@@ -9,7 +9,7 @@ ghost use Rattle.adf_rescue.specs.DeletedObject.{blocks_of, deleted_tokens, reco
 use crate::deleted_lines::{behind_slash, user_of};
 use adf_record::{put_number, put_text};
 use adf_text::letter_text;
-use ados_sound::{Deleted, Recovery};
+use ados_salvage::{Deleted, Recovery};
 use json::Writer;
 use std::alloc::{AllocError, Global};
 

@@ -6,7 +6,7 @@ use crate::asked::{key_of, key_text};
 use crate::chosen::position_of;
 use crate::placing::Placed;
 use crate::undelete_fault::UndeleteFault;
-use adf_salvage::{Salvaged, Undeleted};
+use ados_salvage::{Salvaged, Undeleted};
 use std::alloc::{AllocError, Global};
 use std::collections::BTreeSet;
 

@@ -5,7 +5,7 @@ ghost use Rattle.adf_rescue.specs.Undelete.{asked_in, path_in, place_after, plac
 ghost use Rattle.adf_rescue.specs.steps.Asking.{AreAsked};
 
 use crate::asked::Asked;
-use adf_salvage::Salvaged;
+use ados_salvage::Salvaged;
 use std::alloc::{AllocError, Global};
 
 /// The most bytes of a path, a slash before each name. So all paths together take no more than so many for each entry, however

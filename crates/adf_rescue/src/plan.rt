@@ -1,10 +1,13 @@
 //! The host files and directories for what can be trusted in a damaged image.
-ghost use Rattle.std.specs.Prelude.{◌≢◌, ◌≤◌, All, IfSome, IsTrue, length};
+ghost use Rattle.std.specs.Prelude.{◌≡◌, ◌≢◌, ◌≤◌, ◌++◌, [], All, IfNone, IfOk, IfSome, IsTrue, OnOk, flat_map, length};
+ghost use Rattle.adf_rescue.specs.Paths.{ArePathsApart, file_at, files_from};
+ghost use Rattle.adf_rescue.specs.Undelete.{file_in};
+ghost use Rattle.adf_rescue.specs.steps.Sourcing.{AreApart};
 
 use crate::sourced::{Source, SourcedItems, way_up};
-use adf_salvage::{Salvage, Salvaged, State};
+use adf_host::HostName;
 use ados_name::{Date3, Name};
-use host_trees::HostName;
+use ados_salvage::{Salvage, Salvaged, State};
 use itoa::Buffer;
 use std::alloc::{AllocError, Global};
 use std::str::from_utf8;
@@ -44,7 +47,10 @@ pub(crate) struct Plan {
 
 impl Plan {
     /// The items for the entries of a salvage. With `meta`, a note is beside each.
-    pub(crate) fn of(alloc: Global, salvage: &Salvage, meta: bool) -> Result<Plan, AllocError> {
+    pub(crate) fn of(alloc: Global, salvage: &Salvage, meta: bool) -> Result<Plan, AllocError>
+        ensures paths { IfOk result (λ plan. ArePathsApart plan.out.items.items) }
+        ensures files { IfOk result (λ plan. flat_map file_in plan.out.sources.items ≡ files_from 0 salvage.now.entries) }
+    {
         let entries = salvage.entries();
         let mut plan = Plan {
             out: SourcedItems::new(alloc, meta),
@@ -57,6 +63,7 @@ impl Plan {
             let above = plan.directory_of(alloc, entries, entry)?;
             plan.add(alloc, place, entry, above)?;
         }
+        plan.out.forget_names(alloc);
         Ok(plan)
     }
 
@@ -113,7 +120,11 @@ impl Plan {
         alloc: Global,
         entries: &[Salvaged],
         entry: &Salvaged,
-    ) -> Result<Option<usize>, AllocError> {
+    ) -> Result<Option<usize>, AllocError>
+        requires { AreApart self.old.out }
+        ensures apart { OnOk result (AreApart self.new.out) }
+        ensures files { OnOk result (flat_map file_in self.new.out.sources.items ≡ flat_map file_in self.old.out.sources.items) }
+    {
         let Some(above) = entry.above else {
             if entry.found {
                 return Ok(Some(self.lost_and_found(alloc, entry.date)?));
@@ -130,12 +141,16 @@ impl Plan {
     }
 
     /// The item of the directory for recovered entries.
-    fn lost_and_found(&mut self, alloc: Global, date: Date3) -> Result<usize, AllocError> {
+    fn lost_and_found(&mut self, alloc: Global, date: Date3) -> Result<usize, AllocError>
+        requires { AreApart self.old.out }
+        ensures apart { OnOk result (AreApart self.new.out) }
+        ensures files { OnOk result (flat_map file_in self.new.out.sources.items ≡ flat_map file_in self.old.out.sources.items) }
+    {
         if let Some(item) = self.lost {
             return Ok(item);
         }
         let name = HostName::of_name(alloc, &self.lost_name)?;
-        let item = self.out.push(None, name, Source::Directory, date)?;
+        let item = self.out.push_directory(alloc, None, name, date)?;
         self.lost = Some(item);
         Ok(item)
     }
@@ -147,7 +162,11 @@ impl Plan {
         entries: &[Salvaged],
         dir: usize,
         date: Date3,
-    ) -> Result<usize, AllocError> {
+    ) -> Result<usize, AllocError>
+        requires { AreApart self.old.out }
+        ensures apart { OnOk result (AreApart self.new.out) }
+        ensures files { OnOk result (flat_map file_in self.new.out.sources.items ≡ flat_map file_in self.old.out.sources.items) }
+    {
         let (mut way, top) = way_up(alloc, entries, &self.asides, Some(dir))?;
         let mut item = match top {
             Some(item) => item,
@@ -156,7 +175,7 @@ impl Plan {
         while let Some(place) = way.pop() {
             if let Some(entry) = entries.get(place) {
                 let name = self.out.name_of(alloc, entry)?;
-                item = self.out.push(Some(item), name, Source::Directory, date)?;
+                item = self.out.push_directory(alloc, Some(item), name, date)?;
                 if let Some(aside) = self.asides.get_mut(place) {
                     *aside = Some(item);
                 }
@@ -172,19 +191,31 @@ impl Plan {
         place: usize,
         entry: &Salvaged,
         above: Option<usize>,
-    ) -> Result<(), AllocError> {
-        let source = match entry.state {
-            State::Lost => {
-                let name = self.out.name_of(alloc, entry)?;
-                self.planned.push(Planned::Lost { above, name })?;
-                return Ok(());
-            }
-            State::Directory | State::DoubtfulDirectory => Source::Directory,
-            State::Whole | State::Doubtful { .. } | State::Broken { .. } => Source::File(place),
+    ) -> Result<(), AllocError>
+        requires { AreApart self.old.out }
+        ensures apart { OnOk result (AreApart self.new.out) }
+        ensures files { OnOk result (flat_map file_in self.new.out.sources.items ≡ flat_map file_in self.old.out.sources.items ++ file_at place entry.now.state) }
+    {
+        let Some(source) = source_of(entry.state, place) else {
+            let name = self.out.name_of(alloc, entry)?;
+            self.planned.push(Planned::Lost { above, name })?;
+            return Ok(());
         };
         let item = self.out.push_entry(alloc, entry, above, source, place)?;
         self.planned.push(Planned::Item(item))?;
         Ok(())
+    }
+}
+
+/// Where the bytes of the entry at a position are; `None` for a lost one, of which nothing is written.
+fn source_of(state: State, place: usize) -> Option<Source>
+    ensures some { IfSome result (λ source. file_in source ≡ file_at place state) }
+    ensures none { IfNone result (file_at place state ≡ []) }
+{
+    match state {
+        State::Lost => None,
+        State::Directory | State::DoubtfulDirectory => Some(Source::Directory),
+        State::Whole | State::Doubtful { .. } | State::Broken { .. } => Some(Source::File(place)),
     }
 }
 

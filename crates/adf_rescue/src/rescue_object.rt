@@ -1,15 +1,33 @@
 //! The parts of the JSON object that reports on a damaged image.
-ghost use Rattle.std.specs.Prelude.{◌≡◌, ◌++◌, ◌∷◌, [], IfOk, OnOk, codes, decimal, flat_map, if◌then◌else◌};
+ghost use Rattle.std.specs.Prelude.{◌≡◌, ◌++◌, ◌∷◌, [], IfOk, OnOk, codes, decimal, flat_map, if◌then◌else◌, option_map};
 ghost use Rattle.std.specs.String.{string_bytes};
 ghost use Rattle.json.specs.Print.{print, print_from};
 ghost use Rattle.json.specs.Token.{number};
-ghost use Rattle.adf_rescue.specs.RescueObject.{entry_tokens, is_told, path_end, rest_tokens, state_word};
+ghost use Rattle.adf_rescue.specs.Reasons.{doubt_of, reason_text};
+ghost use Rattle.adf_rescue.specs.RescueObject.{detail_tokens, entry_tokens, hole_tokens, holes_tokens, is_told, path_end, rest_tokens, state_tokens, state_word, written};
 ghost use Rattle.adf_rescue.specs.steps.Reporting.{front_of};
 
+use crate::doubt::doubt_of;
+use crate::missing::Run;
+use crate::spans::{first_byte, last_byte};
+use adf_block::Image;
 use adf_record::{put_flag, put_number, put_text};
-use adf_salvage::State;
+use ados_salvage::{Salvaged, State};
 use json::Writer;
 use std::alloc::{AllocError, Global};
+
+/// An entry with what its object says.
+#[derive(Clone, Copy)]
+pub(crate) struct Row<'a> {
+    pub(crate) image: &'a Image,
+    pub(crate) entry: &'a Salvaged,
+    /// The number of bytes of it that are written, if it is a file.
+    pub(crate) size: Option<u64>,
+    /// Whether it would be a deleted entry if the bitmap could be trusted.
+    pub(crate) deleted: bool,
+    /// The runs of its missing data blocks.
+    pub(crate) missing: &'a [Run],
+}
 
 /// What is before the entries of a report: with `json` the begin of the object.
 pub(crate) fn front_text(alloc: Global, json: bool) -> Result<Vec<u8>, AllocError>
@@ -24,16 +42,16 @@ pub(crate) fn front_text(alloc: Global, json: bool) -> Result<Vec<u8>, AllocErro
 /// The object of an entry at a host path, behind a comma after another one.
 pub(crate) fn entry_object(
     alloc: Global,
-    found: bool,
-    state: State,
+    row: &Row<'_>,
     path: &str,
     after: bool,
 ) -> Result<Vec<u8>, AllocError>
-    ensures { IfOk result (λ text. text.items ≡ print_from after (entry_tokens found state (path.now ++ path_end state))) }
+    requires { row.now.size ≡ written row.now.image.now row.now.entry.now.header row.now.entry.now.state }
+    ensures { IfOk result (λ text. text.items ≡ print_from after (entry_tokens row.now.image.now row.now.entry.now row.now.deleted row.now.missing.now (path.now ++ path_end row.now.entry.now.state))) }
 {
-    let path = slashed(alloc, state, path)?;
+    let path = slashed(alloc, row.entry.state, path)?;
     let mut writer = Writer::new(comma(alloc, after)?);
-    put_entry(&mut writer, found, state, path.as_str())?;
+    put_entry(&mut writer, row, path.as_str())?;
     Ok(writer.into_inner())
 }
 
@@ -57,16 +75,86 @@ fn comma(alloc: Global, after: bool) -> Result<Vec<u8>, AllocError>
 }
 
 /// Writes the object of an entry with this path.
-fn put_entry(writer: &mut Writer, found: bool, state: State, path: &str) -> Result<(), AllocError>
+fn put_entry(writer: &mut Writer, row: &Row<'_>, path: &str) -> Result<(), AllocError>
+    requires { row.now.size ≡ written row.now.image.now row.now.entry.now.header row.now.entry.now.state }
     ensures before { writer.new.before ≡ writer.old.before }
-    ensures tokens { OnOk result (writer.new.tokens ≡ writer.old.tokens ++ entry_tokens found state path.now) }
+    ensures tokens { OnOk result (writer.new.tokens ≡ writer.old.tokens ++ entry_tokens row.now.image.now row.now.entry.now row.now.deleted row.now.missing.now path.now) }
 {
     writer.begin_object()?;
+    put_state(writer, row.entry.found, row.entry.state, path)?;
+    put_detail(writer, row)?;
+    put_holes(writer, row.image, row.entry.header, row.missing)?;
+    writer.end_object()
+}
+
+/// Writes the members for the state of an entry with this path.
+fn put_state(writer: &mut Writer, found: bool, state: State, path: &str) -> Result<(), AllocError>
+    ensures before { writer.new.before ≡ writer.old.before }
+    ensures tokens { OnOk result (writer.new.tokens ≡ writer.old.tokens ++ state_tokens found state path.now) }
+{
     put_text(writer, "path", Some(path))?;
     put_text(writer, "state", Some(state_word(state)))?;
     put_flag(writer, "found", found)?;
     put_number(writer, "missing", Some(u64::from(state.missing())))?;
-    put_flag(writer, "cut", state.is_cut())?;
+    put_flag(writer, "cut", state.is_cut())
+}
+
+/// Writes the members for the header and the size of an entry, for what is wrong with it, and for what the bitmap says of it.
+fn put_detail(writer: &mut Writer, row: &Row<'_>) -> Result<(), AllocError>
+    requires { row.now.size ≡ written row.now.image.now row.now.entry.now.header row.now.entry.now.state }
+    ensures before { writer.new.before ≡ writer.old.before }
+    ensures tokens { OnOk result (writer.new.tokens ≡ writer.old.tokens ++ detail_tokens row.now.image.now row.now.entry.now.header row.now.entry.now.state row.now.deleted) }
+{
+    put_number(writer, "header", Some(u64::from(row.entry.header)))?;
+    put_number(writer, "size", row.size)?;
+    put_text(writer, "reason", reason_of(row.entry.state))?;
+    put_flag(writer, "deleted", row.deleted)
+}
+
+/// Why an entry with this state is doubtful or cut short, if it is.
+fn reason_of(state: State) -> Option<&'static str>
+    ensures { option_map (λ text. text.now) result ≡ option_map reason_text (doubt_of state) }
+{
+    Some(doubt_of(state)?.reason())
+}
+
+/// Writes the member for the runs of missing data blocks of a file with this header.
+fn put_holes(
+    writer: &mut Writer,
+    image: &Image,
+    header: u32,
+    runs: &[Run],
+) -> Result<(), AllocError>
+    ensures before { writer.new.before ≡ writer.old.before }
+    ensures tokens { OnOk result (writer.new.tokens ≡ writer.old.tokens ++ holes_tokens image.now header runs.now) }
+{
+    writer.key("holes")?;
+    writer.begin_array()?;
+    put_runs(writer, image, header, runs)?;
+    writer.end_array()
+}
+
+/// Writes the objects of runs of missing data blocks.
+fn put_runs(writer: &mut Writer, image: &Image, header: u32, runs: &[Run]) -> Result<(), AllocError>
+    ensures before { writer.new.before ≡ writer.old.before }
+    ensures tokens { OnOk result (writer.new.tokens ≡ writer.old.tokens ++ flat_map (hole_tokens image.now header) runs.now) }
+{
+    for run in runs {
+        put_run(writer, image, header, *run)?;
+    }
+    Ok(())
+}
+
+/// Writes the object of a run of missing data blocks.
+fn put_run(writer: &mut Writer, image: &Image, header: u32, run: Run) -> Result<(), AllocError>
+    ensures before { writer.new.before ≡ writer.old.before }
+    ensures tokens { OnOk result (writer.new.tokens ≡ writer.old.tokens ++ hole_tokens image.now header run) }
+{
+    writer.begin_object()?;
+    put_number(writer, "first", Some(first_byte(image, run)))?;
+    put_number(writer, "last", Some(last_byte(image, header, run)))?;
+    put_number(writer, "first_data", Some(u64::from(run.first)))?;
+    put_number(writer, "last_data", Some(u64::from(run.last)))?;
     writer.end_object()
 }
 

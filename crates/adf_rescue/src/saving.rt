@@ -1,11 +1,12 @@
 //! The host files and directories for deleted entries.
 ghost use Rattle.std.specs.Prelude.{◌≡◌, ◌++◌, ◌<◌, All, IfOk, OnOk, flat_map, length};
+ghost use Rattle.adf_rescue.specs.Paths.{ArePathsApart};
 ghost use Rattle.adf_rescue.specs.Undelete.{file_in, file_saved, files_saved};
+ghost use Rattle.adf_rescue.specs.steps.Sourcing.{AreApart};
 
 use crate::chosen::Chosen;
 use crate::sourced::{Source, SourcedItems, way_up};
-use adf_salvage::Salvaged;
-use ados_sound::Recovery;
+use ados_salvage::{Recovery, Salvaged};
 use std::alloc::{AllocError, Global};
 
 /// The items for entries, each in the item of its directory.
@@ -26,7 +27,8 @@ impl Saving {
         meta: bool,
     ) -> Result<Saving, AllocError>
         requires { All (λ one. one.position < length entries.now) chosen.now }
-        ensures { IfOk result (λ saving. flat_map file_in saving.out.sources.items ≡ files_saved force chosen.now) }
+        ensures paths { IfOk result (λ saving. ArePathsApart saving.out.items.items) }
+        ensures files { IfOk result (λ saving. flat_map file_in saving.out.sources.items ≡ files_saved force chosen.now) }
     {
         let mut saving = Saving {
             out: SourcedItems::new(alloc, meta),
@@ -35,6 +37,7 @@ impl Saving {
         for one in chosen {
             saving.add(alloc, entries, *one, force)?;
         }
+        saving.out.forget_names(alloc);
         Ok(saving)
     }
 
@@ -46,8 +49,10 @@ impl Saving {
         chosen: Chosen,
         force: bool,
     ) -> Result<(), AllocError>
-        requires { chosen.position < length entries.now }
-        ensures { OnOk result (flat_map file_in self.new.out.sources.items ≡ flat_map file_in self.old.out.sources.items ++ file_saved force chosen) }
+        requires inside { chosen.position < length entries.now }
+        requires apart { AreApart self.old.out }
+        ensures apart { OnOk result (AreApart self.new.out) }
+        ensures files { OnOk result (flat_map file_in self.new.out.sources.items ≡ flat_map file_in self.old.out.sources.items ++ file_saved force chosen) }
     {
         let position = chosen.position;
         if chosen.is_file_saved(force) {
@@ -67,7 +72,9 @@ impl Saving {
         entries: &[Salvaged],
         dir: Option<usize>,
     ) -> Result<Option<usize>, AllocError>
-        ensures { OnOk result (flat_map file_in self.new.out.sources.items ≡ flat_map file_in self.old.out.sources.items) }
+        requires { AreApart self.old.out }
+        ensures apart { OnOk result (AreApart self.new.out) }
+        ensures files { OnOk result (flat_map file_in self.new.out.sources.items ≡ flat_map file_in self.old.out.sources.items) }
     {
         let (mut way, top) = way_up(alloc, entries, &self.places, dir)?;
         let mut item = top;
@@ -88,7 +95,9 @@ impl Saving {
         source: Source,
         position: usize,
     ) -> Result<usize, AllocError>
-        ensures { OnOk result (flat_map file_in self.new.out.sources.items ≡ flat_map file_in self.old.out.sources.items ++ file_in source) }
+        requires { AreApart self.old.out }
+        ensures apart { OnOk result (AreApart self.new.out) }
+        ensures files { OnOk result (flat_map file_in self.new.out.sources.items ≡ flat_map file_in self.old.out.sources.items ++ file_in source) }
     {
         let item = self.out.push_entry(alloc, entry, above, source, position)?;
         if let Some(place) = self.places.get_mut(position) {

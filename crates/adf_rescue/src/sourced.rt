@@ -1,15 +1,22 @@
 //! Host files and directories for entries of a salvage, and where their bytes are.
-ghost use Rattle.std.specs.Prelude.{◌≡◌, ◌++◌, ◌∷◌, [], IfOk, IfSome, OnOk, flat_map, slice_get};
+ghost use Rattle.std.specs.Prelude.{◌≡◌, ◌++◌, ◌∷◌, [], ℕ, List, IfOk, IfSome, OnOk, flat_map, if◌then◌else◌, slice_get, true};
+ghost use Rattle.std.specs.BTreeSet.{contains_text};
+ghost use Rattle.std.specs.Str.{bytes_eq};
+ghost use Rattle.std.specs.String.{string_bytes};
+ghost use Rattle.adf_rescue.specs.Paths.{ArePathsApart};
 ghost use Rattle.adf_rescue.specs.Rescue.{HasSource};
 ghost use Rattle.adf_rescue.specs.Undelete.{file_in};
+ghost use Rattle.adf_rescue.specs.steps.Sourcing.{AreApart, IsFree, IsFreeName, place_text};
 
 use crate::plan::name_of;
-use adf_host::{OwnedFile, PromptFiles};
-use adf_salvage::{Salvage, Salvaged};
+use adf_host::{
+    Contents, HostItem, HostName, ItemKind, OwnedFile, PromptFiles, WriteFault, write_tree,
+};
 use adf_text::{Uaem, uaem_line};
 use ados_name::Date3;
-use host_trees::{Contents, HostItem, HostName, ItemKind, WriteFault, write_tree};
+use ados_salvage::{Salvage, Salvaged};
 use std::alloc::{AllocError, Global};
+use std::collections::BTreeSet;
 
 /// Where the bytes of an item are.
 #[derive(Clone, Copy)]
@@ -28,6 +35,10 @@ pub(crate) struct SourcedItems {
     pub(crate) sources: Vec<Source>,
     /// Whether a note is beside each entry.
     meta: bool,
+    /// The names in use, each with its directory.
+    taken: BTreeSet<String>,
+    /// The length of the longest of these.
+    longest: usize,
 }
 
 /// The bytes of items, by their sources.
@@ -50,27 +61,55 @@ impl Source {
 impl SourcedItems {
     /// No items.
     pub(crate) fn new(alloc: Global, meta: bool) -> SourcedItems
-        ensures { result.sources.items ≡ [] }
+        ensures sources { result.sources.items ≡ [] }
+        ensures apart { AreApart result }
     {
         SourcedItems {
             items: Vec::new(alloc),
             sources: Vec::new(alloc),
             meta,
+            taken: BTreeSet::new(alloc),
+            longest: 0,
         }
     }
 
-    /// Adds an item, and returns its position.
-    pub(crate) fn push(
+    /// Adds a directory, and returns its position. If its name is in use where it is, an ending makes it another one.
+    pub(crate) fn push_directory(
         &mut self,
+        alloc: Global,
+        above: Option<usize>,
+        name: HostName,
+        date: Date3,
+    ) -> Result<usize, AllocError>
+        requires apart { AreApart self.old }
+        ensures files { OnOk result (flat_map file_in self.new.sources.items ≡ flat_map file_in self.old.sources.items) }
+        ensures apart { OnOk result (AreApart self.new) }
+    {
+        let name = self.free_name(alloc, above, name)?;
+        let item = self.push(alloc, above, name, Source::Directory, date)?;
+        Ok(item)
+    }
+
+    /// Adds an item whose name is not in use, and returns its position.
+    fn push(
+        &mut self,
+        alloc: Global,
         above: Option<usize>,
         name: HostName,
         source: Source,
         date: Date3,
     ) -> Result<usize, AllocError>
-        ensures { OnOk result (self.new.sources.items ≡ self.old.sources.items ++ source ∷ []) }
+        requires apart { AreApart self.old }
+        requires free { IsFree self.old above name }
+        ensures sources { OnOk result (self.new.sources.items ≡ self.old.sources.items ++ source ∷ []) }
+        ensures apart { OnOk result (AreApart self.new) }
+        ensures taken { OnOk result ((text : List ℕ) → contains_text self.new.taken text ≡ (if bytes_eq (place_text above name) text then true else contains_text self.old.taken text)) }
     {
         let place = self.items.len();
         let kind = source.kind();
+        let text = place_text(alloc, above, &name)?;
+        self.longest = self.longest.max(text.len());
+        self.taken.insert(text)?;
         self.items.push(HostItem {
             above,
             name,
@@ -90,15 +129,70 @@ impl SourcedItems {
         source: Source,
         place: usize,
     ) -> Result<usize, AllocError>
-        ensures { OnOk result (flat_map file_in self.new.sources.items ≡ flat_map file_in self.old.sources.items ++ file_in source) }
+        requires apart { AreApart self.old }
+        ensures files { OnOk result (flat_map file_in self.new.sources.items ≡ flat_map file_in self.old.sources.items ++ file_in source) }
+        ensures apart { OnOk result (AreApart self.new) }
     {
         let name = self.name_of(alloc, entry)?;
+        let name = self.free_name(alloc, above, name)?;
         let note = name.note(alloc)?;
-        let item = self.push(above, name, source, entry.date)?;
-        if self.meta {
-            self.push(above, note, Source::Note(place), entry.date)?;
+        let has_note = self.meta;
+        let item = self.push(alloc, above, name, source, entry.date)?;
+        if has_note {
+            self.push(alloc, above, note, Source::Note(place), entry.date)?;
         }
         Ok(item)
+    }
+
+    /// The name of an item in a directory: this name, with `~2` behind it, again and again, while it is in use there.
+    fn free_name(
+        &self,
+        alloc: Global,
+        above: Option<usize>,
+        name: HostName,
+    ) -> Result<HostName, AllocError>
+        requires { AreApart self.now }
+        ensures { IfOk result (IsFreeName self.now above) }
+    {
+        let mut name = name;
+        for _ending in 0..self.longest {
+            if self.is_free(alloc, above, &name)? {
+                return Ok(name);
+            }
+            name = name.with_ending(alloc, "~2")?;
+        }
+        Ok(name)
+    }
+
+    /// Whether a name is not in use in a directory, and with `meta` not that of its note either.
+    fn is_free(
+        &self,
+        alloc: Global,
+        above: Option<usize>,
+        name: &HostName,
+    ) -> Result<bool, AllocError>
+        ensures { IfOk result (λ free. free ≡ true → IsFreeName self.now above name.now) }
+    {
+        let text = place_text(alloc, above, name)?;
+        if self.taken.contains(text.as_str()) {
+            return Ok(false);
+        }
+        if !self.meta {
+            return Ok(true);
+        }
+        let note = name.note(alloc)?;
+        let text = place_text(alloc, above, &note)?;
+        Ok(!self.taken.contains(text.as_str()))
+    }
+
+    /// Forgets which names are in use, since no item is added any more. Each item has a path of its own.
+    pub(crate) fn forget_names(&mut self, alloc: Global)
+        requires { AreApart self.old }
+        ensures items { self.new.items.items ≡ self.old.items.items }
+        ensures sources { self.new.sources.items ≡ self.old.sources.items }
+        ensures paths { ArePathsApart self.new.items.items }
+    {
+        self.taken = BTreeSet::new(alloc);
     }
 
     /// The host name of an entry in its directory, in which notes may be.
@@ -143,6 +237,18 @@ impl Contents for Rescued<'_> {
             _ => Ok(Vec::new(alloc)),
         }
     }
+}
+
+/// A name in the directory of an item, as text.
+fn place_text(alloc: Global, above: Option<usize>, name: &HostName) -> Result<String, AllocError>
+    ensures { IfOk result (λ text. string_bytes text ≡ place_text above name.now) }
+{
+    let name = name.as_str();
+    let text = match above {
+        Some(dir) => format!(in alloc; "{dir}/{name}")?,
+        None => format!(in alloc; "/{name}")?,
+    };
+    Ok(text)
 }
 
 /// The line of an entry's note.

@@ -1,5 +1,5 @@
 //! Why deleted entries are neither told nor written.
-use host_trees::WriteFault;
+use adf_host::WriteFault;
 use std::alloc::AllocError;
 use thiserror::Error;
 

@@ -1,7 +1,7 @@
 //! Deleted entries, as files and directories of the host.
 ghost use Rattle.std.specs.Prelude.{ℕ, List, IfErr, IfOk, MatchResult, map};
-ghost use Rattle.ados_sound.specs.Deleted.{IsTrustedBitmap};
-ghost use Rattle.adf_salvage.specs.Undeleted.{IsRead, IsUndeleted};
+ghost use Rattle.ados_salvage.specs.Deleted.{IsTrustedBitmap};
+ghost use Rattle.ados_salvage.specs.Undeleted.{IsRead, IsUndeleted};
 ghost use Rattle.adf_rescue.specs.Undelete.{IsUndeleteFault, IsUndeletion, key_of};
 
 use crate::asked::Asked;
@@ -12,9 +12,9 @@ use crate::placing::placed_entries;
 use crate::saving::Saving;
 use crate::undelete_fault::UndeleteFault;
 use adf_block::{Format, Image};
+use adf_cli::UndeleteJob;
 use adf_host::{OwnedFile, PromptFiles};
-use adf_salvage::{Undeleted, UndeletedEntries, undelete};
-use adf_words::UndeleteJob;
+use ados_salvage::{Undeleted, UndeletedEntries, undelete};
 use std::alloc::Global;
 
 /// The deleted entries that arguments choose, the files and directories of the host for them, and what is told of them.

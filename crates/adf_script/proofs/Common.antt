@@ -15,9 +15,9 @@ pub use Rattle.ados_port.proofs.Histories.{history_nil, slice_get-push_at}
 pub use Rattle.ados_port.specs.Gives.{PutGives, ServeGives, StepGives, TakeGives}
 pub use Rattle.ados_port.specs.History.{ClientState, PortHistory, PortState, client_state, opening_port}
 pub use Rattle.ados_port.specs.Lawful.{numbered}
-pub use Rattle.ados_port.specs.Outcome.TheVariants.{Accepted, Refused, Served, Taken}
-pub use Rattle.ados_port.specs.PutRefused.TheVariants.{Closed, NoRoom}
-pub use Rattle.ados_port.specs.Reply.{Reply}
+pub use Rattle.ados_port.specs.declared.step.Outcome.TheVariants.{Accepted, Refused, Served, Taken}
+pub use Rattle.ados_port.specs.declared.step.PutRefused.TheVariants.{Closed, NoRoom}
+pub use Rattle.ados_port.specs.declared.step.Reply.{Reply}
 pub use Rattle.std.proofs.Common.{Bool, Bor, List, MatchOption, None, Option, Some, [], ap, append_assoc, arith, cond, drop, eq-eqb, false, get_or, inl, inr, length, length-append, length-drop, nat_lt, refl, replicate, rules, slice_get, subst, suc, sym, take, true, zero, ℕ, ℤ, ◌++◌, ◌+◌, ◌-◌, ◌<◌, ◌^◌, ◌∙◌, ◌∷◌, ◌≡◌, ◌≢◌, ◌≤◌, ◌⊎◌}
 pub use Rattle.std.proofs.lemmas.Bool.{cases_lt, lt-ltb, ltb-false, ltb-true}
 pub use Rattle.std.proofs.lemmas.Bool.Decides.{eqb_tells}

@@ -1,7 +1,7 @@
 -- One packet through a port where none waits.
 use Rattle.adf_script.proofs.Common.{◌≡◌, ◌≢◌, ◌⊎◌, inl, inr, ℕ, ◌+◌, ◌-◌, Bool, true, false, List, [], ◌∷◌, ◌++◌, sym, ap, subst, ◌∙◌, slice_set, MatchBool, Packet, Answer, ClientState, PortState, client_state, PutGives, ServeGives, TakeGives, Closed, NoRoom, Reply, Accepted, Refused, Served, Taken, quiet_port, IsQuiet, Calls}
 use Rattle.std.specs.Prelude.{Some}
-use Rattle.ados_port.specs.Outcome.{Outcome}
+use Rattle.ados_port.specs.declared.step.Outcome.{Outcome}
 
 module _ {S : Type 0} where
   -- the packet waits

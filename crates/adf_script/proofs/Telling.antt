@@ -2,7 +2,7 @@
 use Rattle.adf_script.proofs.Common.{◌≡◌, ℕ, zero, suc, ◌+◌, inl, inr, Bool, true, false, List, [], ◌∷◌, ◌++◌, length, take, drop, slice_get, refl, sym, ap, subst, ◌∙◌, arith, append_assoc, length-append, MatchBool, take_all, length-take, cases_lt, lt-ltb, none-some, same_Some, Packet, Answer, PortState, PortHistory, StepGives, Closed, Reply, Accepted, Refused, Served, Taken, history_nil, kept_lines, is_too_long, answer_value, reply_line, closed_line, fault_line, NextPuts, NextIsFaulty, NoneIsLeft, steps_of, outcomes_of, LinesTell, Told, ended, answered, closed, faulty, IsQuiet, Calls}
 use Rattle.std.specs.Prelude.{Option, Some, None}
 use Rattle.std.specs.Io.KnownBytes.{Appends, Consumes, IsAtEnd, Keeps}
-use Rattle.ados_port.specs.Step.TheVariants.{Put, Serve, Take}
+use Rattle.ados_port.specs.declared.step.Step.TheVariants.{Put, Serve, Take}
 use Rattle.ados_port.proofs.Grows.{grow, history_of_step}
 use Rattle.adf_script.specs.Streams.{ReadsAndWrites}
 use Rattle.adf_io.specs.Prefix.{Writes}

@@ -6,11 +6,11 @@ use Rattle.ados_model.specs.declared.packet.Packet.{Packet}
 use Rattle.ados_model.specs.declared.answer.Answer.{Answer}
 use Rattle.ados_port.specs.History.{PortState, PortHistory}
 use Rattle.ados_port.specs.Lawful.{numbered}
-use Rattle.ados_port.specs.Step.{Step}
-use Rattle.ados_port.specs.Step.TheVariants.{Put}
-use Rattle.ados_port.specs.PutRefused.TheVariants.{Closed}
-use Rattle.ados_port.specs.Outcome.{Outcome}
-use Rattle.ados_port.specs.Outcome.TheVariants.{Refused}
+use Rattle.ados_port.specs.declared.step.Step.{Step}
+use Rattle.ados_port.specs.declared.step.Step.TheVariants.{Put}
+use Rattle.ados_port.specs.declared.step.PutRefused.TheVariants.{Closed}
+use Rattle.ados_port.specs.declared.step.Outcome.{Outcome}
+use Rattle.ados_port.specs.declared.step.Outcome.TheVariants.{Refused}
 use Rattle.adf_script.specs.Lines.{kept_lines, is_too_long}
 use Rattle.adf_script.specs.Values.{answer_values}
 use Rattle.adf_script.specs.Packets.{ArePackets, NextPuts, NextIsFaulty, NoneIsLeft}

@@ -4,12 +4,12 @@ use Rattle.std.specs.Bool.{MatchBool}
 use Rattle.ados_model.specs.declared.packet.Packet.{Packet}
 use Rattle.ados_model.specs.declared.answer.Answer.{Answer}
 use Rattle.ados_port.specs.History.{PortState, opening_port, PortHistory}
-use Rattle.ados_port.specs.Step.{Step}
-use Rattle.ados_port.specs.Step.TheVariants.{Put, Serve, Take}
-use Rattle.ados_port.specs.PutRefused.TheVariants.{Closed}
-use Rattle.ados_port.specs.Reply.{Reply}
-use Rattle.ados_port.specs.Outcome.{Outcome}
-use Rattle.ados_port.specs.Outcome.TheVariants.{Accepted, Refused, Served, Taken}
+use Rattle.ados_port.specs.declared.step.Step.{Step}
+use Rattle.ados_port.specs.declared.step.Step.TheVariants.{Put, Serve, Take}
+use Rattle.ados_port.specs.declared.step.PutRefused.TheVariants.{Closed}
+use Rattle.ados_port.specs.declared.step.Reply.{Reply}
+use Rattle.ados_port.specs.declared.step.Outcome.{Outcome}
+use Rattle.ados_port.specs.declared.step.Outcome.TheVariants.{Accepted, Refused, Served, Taken}
 use Rattle.adf_script.specs.Lines.{kept_lines, is_too_long}
 use Rattle.adf_script.specs.Streams.{ReadsAndWrites}
 use Rattle.adf_io.specs.Prefix.{Writes}

@@ -1,6 +1,6 @@
 //! Reading of a script.
 ghost use Rattle.std.specs.Prelude.{◌≡◌, IfOk};
-ghost use Rattle.adf_io.specs.Front.{GivesNoEnd, ReadsFront};
+ghost use Rattle.adf_io.specs.Input.{GivesNoEnd, ReadsFront};
 
 use adf_io::{InputFault, read_input};
 use std::alloc::Global;

@@ -1,7 +1,7 @@
 //! Runs a script.
 ghost use Rattle.std.specs.Prelude.{◌≡◌, ◌≢◌, ◌∷◌, ◌++◌, [], OnOk, false, true};
 ghost use Rattle.std.specs.Io.KnownBytes.{Appends};
-ghost use Rattle.adf_io.specs.Front.{GivesNoEnd};
+ghost use Rattle.adf_io.specs.Input.{GivesNoEnd};
 ghost use Rattle.ados_model.specs.declared.packet.Packet.{Packet};
 ghost use Rattle.ados_port.specs.History.{opening_port};
 ghost use Rattle.adf_script.specs.Lines.{is_too_long};

@@ -19,8 +19,8 @@ use Rattle.ados_model.specs.declared.answer.Body.TheVariants.{Disk}
 use Rattle.ados_model.specs.declared.packet.Packet.{Packet}
 use Rattle.ados_model.specs.declared.packet.Packet.TheVariants.{DiskInfo}
 use Rattle.ados_port.specs.History.{PortState, Event, PortHistory, Run, Serving, accepted_in, events_of, last_server, opening_port, packets_by, queue, served_count, take_outcome}
-use Rattle.ados_port.specs.{Step.Step, Step.TheVariants.Put, Step.TheVariants.Serve, Step.TheVariants.Take}
-use Rattle.ados_port.specs.{Outcome.Outcome, Outcome.TheVariants.Accepted, Outcome.TheVariants.Idle, Outcome.TheVariants.NoClient, Outcome.TheVariants.Nothing, Outcome.TheVariants.Refused, Outcome.TheVariants.Served, Outcome.TheVariants.Taken}
+use Rattle.ados_port.specs.declared.step.{Step.Step, Step.TheVariants.Put, Step.TheVariants.Serve, Step.TheVariants.Take}
+use Rattle.ados_port.specs.declared.step.{Outcome.Outcome, Outcome.TheVariants.Accepted, Outcome.TheVariants.Idle, Outcome.TheVariants.NoClient, Outcome.TheVariants.Nothing, Outcome.TheVariants.Refused, Outcome.TheVariants.Served, Outcome.TheVariants.Taken}
 use Rattle.ados_run.specs.Keeping.{KeepsVolume, ServesBoth}
 use Rattle.ados_run.specs.Runs.{BothSides, HandlerPort, PacketOutcomes, PacketSteps, port_beside}
 use Rattle.ados_run.specs.TreeLists.{beside, both_died}

@@ -3,9 +3,9 @@ use Rattle.std.proofs.Common.{◌≡◌, ℕ, inl, inr, Bool, List, Option, Ok, 
 use Rattle.std.proofs.KnownBytes.{Keeps-refl}
 use Rattle.ados_model.specs.Faults.{Shows}
 use Rattle.ados_model.specs.declared.fault.VolumeFault.{VolumeFault}
-use Rattle.ados_mend.specs.Answer.{IsNew}
-use Rattle.ados_mend.specs.Said.{validated_text}
-use Rattle.ados_mend.specs.declared.answer.Validated.{Validated}
+use Rattle.ados_validate.specs.Answer.{IsNew}
+use Rattle.ados_validate.specs.Said.{validated_text}
+use Rattle.ados_validate.specs.declared.answer.Validated.{Validated}
 use Rattle.adf_serve.specs.declared.fault.CommandFault.{CommandFault}
 use Rattle.adf_serve.specs.declared.fault.CommandFault.TheVariants.{Dos, Refused}
 use Rattle.adf_serve.specs.Commands.{Ending, LeavesOff, TellsOf}

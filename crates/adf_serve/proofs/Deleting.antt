@@ -4,7 +4,7 @@ use Rattle.std.specs.Io.KnownBytes.{Appends}
 use Rattle.adf_io.specs.Prefix.{WritesFront}
 use Rattle.adf_rescue.specs.declared.undeleting.Undeletion.{Undeletion}
 use Rattle.adf_rescue.specs.Undelete.{IsUndeletion, key_of}
-use Rattle.adf_words.specs.declared.query.UndeleteJob.{UndeleteJob}
+use Rattle.adf_cli.specs.declared.query.UndeleteJob.{UndeleteJob}
 use Rattle.adf_serve.specs.declared.fault.CommandFault.{CommandFault}
 use Rattle.adf_serve.specs.declared.fault.CommandFault.TheVariants.{Output, Undelete}
 use Rattle.adf_serve.specs.Commands.{Ending}

@@ -1,8 +1,7 @@
 -- The output for an image, whole or in part.
 use Rattle.std.proofs.Common.{◌≡◌, ◌≢◌, ◌↔◌, ℕ, Bor, ◌⊎◌, IsTrue, IsFalse, codes, inl, inr, Bool, true, false, List, [], ◌++◌, Option, Some, None, option_map, Ok, Err, IfErr, OnErr, OnOk, IsErrAnd, refl, sym, ap, ap₂, ◌∙◌, subst}
-use Rattle.std.specs.Prelude.{⊤}
 use Rattle.std.specs.Io.KnownBytes.{Appends, Keeps}
-use Rattle.std.proofs.KnownBytes.{Appends-nil, Keeps-refl}
+use Rattle.std.proofs.KnownBytes.{Keeps-refl}
 use Rattle.ados_model.specs.Accepted.{Accepts, HandsBack, IsRefusal}
 use Rattle.ados_model.specs.Faults.{Shows}
 use Rattle.ados_model.specs.Stands.{Stands}
@@ -14,7 +13,7 @@ use Rattle.ados_model.specs.declared.fault.VolumeFault.{VolumeFault}
 use Rattle.adf_io.specs.Prefix.{Writes, WritesFront, WritesFrontOf}
 use Rattle.adf_export.specs.Info.{info_text}
 use Rattle.adf_export.specs.Listing.{BeginsList, IsList}
-use Rattle.adf_words.specs.declared.job.ImageJob.{ImageJob}
+use Rattle.adf_cli.specs.declared.job.ImageJob.{ImageJob}
 use Rattle.adf_export.specs.declared.fault.OutFault.{OutFault}
 use Rattle.adf_export.specs.declared.fault.OutFault.TheVariants as out
 use Rattle.adf_export.specs.Printing.{IsPrinted, IsPrintFault}
@@ -34,28 +33,30 @@ use Rattle.adf_archive.specs.Archive.{TellsArchive, told_in}
 use Rattle.adf_archive.specs.declared.fault.ArchiveFault.{ArchiveFault}
 use Rattle.adf_archive.specs.declared.fault.ArchiveFault.TheVariants as archive
 use Rattle.adf_archive.specs.Words.{kind_word}
-use Rattle.adf_words.specs.declared.query.CheckJob.{CheckJob}
-use Rattle.adf_words.specs.declared.query.ListForm.{ListForm}
-use Rattle.adf_words.specs.declared.query.ListJob.{ListJob}
-use Rattle.adf_words.specs.declared.query.ListOrder.{ListOrder}
-use Rattle.adf_words.specs.declared.query.WhereJob.{WhereJob}
+use Rattle.adf_cli.specs.declared.query.CheckJob.{CheckJob}
+use Rattle.adf_cli.specs.declared.query.ListForm.{ListForm}
+use Rattle.adf_cli.specs.declared.query.ListJob.{ListJob}
+use Rattle.adf_cli.specs.declared.query.ListOrder.{ListOrder}
+use Rattle.adf_cli.specs.declared.query.MapJob.{MapJob}
+use Rattle.adf_cli.specs.declared.query.WhereJob.{WhereJob}
 use Rattle.adf_block.specs.Image.{block_count}
 use Rattle.adf_where.specs.Faulty.{IsFaultyWhere}
 use Rattle.adf_where.specs.Own.{IsWhereOf}
 use Rattle.adf_where.specs.Where.{IsWhere, IsWhereFault, LeavesWhere}
+use Rattle.adf_where.specs.declared.asking.Asking.{Asking}
 use Rattle.adf_where.specs.declared.where_fault.WhereFault.{WhereFault}
 use Rattle.adf_where.specs.declared.where_fault.WhereFault.TheVariants as places
-use Rattle.adf_words.specs.declared.block_word.BlockWord.{BlockWord}
+use Rattle.adf_cli.specs.declared.block_word.BlockWord.{BlockWord}
 use Rattle.adf_export.specs.Words.{LeadsTo}
 use Rattle.adf_serve.specs.Archives.{EndsArchive, IsToldArchive}
 use Rattle.adf_serve.specs.Deleted.{IsDeletedText, IsUndeleteEnd}
 use Rattle.adf_serve.specs.Mapped.{IsBareMap, IsKindRefusal, IsMapReport}
 use Rattle.adf_where.specs.FaultyMap.{IsFaultyMap}
-use Rattle.adf_words.specs.declared.map_form.MapForm.{MapForm}
 use Rattle.ados_faults.specs.Listed.{IsOtherKind}
 use Rattle.adf_serve.specs.Placed.{DoesWhere, IsBareRefusal, IsPlacedIn, IsUnasked, IsWhereText, LeavesPlaced, MayEnd}
 use Rattle.adf_serve.specs.Reports.{DoesReport, IsSomeText, TellsReport}
 use Rattle.adf_serve.specs.Rescues.{IsHostEnd, IsRescueText, IsSomeSize}
+use Rattle.adf_serve.specs.Unread.{AreMarksOf}
 use Rattle.adf_serve.specs.Refusals.{dos_text, IsDosText, IsImageRefusal, IsRefusalText, IsSizeRefusal, refusal_text, told_line}
 
 -- an image is refused, as the fault says
@@ -169,26 +170,31 @@ module _ (image : List ℕ) (was_validated : Bool) (checked : List ℕ) (a : Acc
       let s = accepted_tree image was_validated checked a in (was_validated, checked, s.0, a, s.1, is s.0 s.1)
 
   -- the owners of blocks, written whole, or as far as the writer accepts them
-  module _ (job : WhereJob) (words : List BlockWord) (asked : words ≡ job.blocks.items) (old new : Option (List ℕ)) where
-    owned : (t : Tree) → Stands checked t → (text : List ℕ) → IsWhere job.json checked t words text → IsWhereText job true text
-    owned t s text is = (image, (was_validated, checked, t, a, s, subst (λ (blocks : List BlockWord). IsWhere job.json checked t blocks text) asked is))
+  module _ (job : WhereJob) (asking : Asking) (asked : asking.words.now ≡ job.blocks.items) (of_json : asking.json ≡ job.json) (marks : AreMarksOf job.bad (block_count image) [] asking.unread.now) (old new : Option (List ℕ)) where
+    abbrev Owned : Tree → List ℕ → Type 0
+    Owned t = IsWhere asking.json asking.unread.now checked t asking.words.now
 
-    pub owners_written : ((t : Tree) → Stands checked t → Writes old new (IsWhere job.json checked t words)) → Writes old new (IsWhereText job true)
+    owned : (t : Tree) → Stands checked t → (text : List ℕ) → Owned t text → IsWhereText job true text
+    owned t s text is =
+        let told = subst (λ (blocks : List BlockWord). IsWhere asking.json asking.unread.now checked t blocks text) asked is in
+        (image, (asking.unread.now, marks, (was_validated, checked, t, a, s, subst (λ (json : Bool). IsWhere json asking.unread.now checked t job.blocks.items text) of_json told)))
+
+    pub owners_written : ((t : Tree) → Stands checked t → Writes old new (Owned t)) → Writes old new (IsWhereText job true)
     owners_written told =
         let s = accepted_tree image was_validated checked a in
         let w = told s.0 s.1 in (w.0, w.1, owned s.0 s.1 w.0 w.2)
 
-    pub owners_left : (fault : WhereFault) → ((t : Tree) → Stands checked t → LeavesWhere (IsWhere job.json checked t words) old new fault)
+    pub owners_left : (fault : WhereFault) → ((t : Tree) → Stands checked t → LeavesWhere (Owned t) old new fault)
         → Keeps old new ⊎ WritesFrontOf old new (IsSomeText (IsWhereText job))
     owners_left fault told =
         let s = accepted_tree image was_validated checked a in
         go fault (told s.0 s.1)
       where
-        some : (t : Tree) → Stands checked t → Keeps old new ⊎ WritesFrontOf old new (IsWhere job.json checked t words) → Keeps old new ⊎ WritesFrontOf old new (IsSomeText (IsWhereText job))
+        some : (t : Tree) → Stands checked t → Keeps old new ⊎ WritesFrontOf old new (Owned t) → Keeps old new ⊎ WritesFrontOf old new (IsSomeText (IsWhereText job))
         some t s (inl keeps) = inl keeps
         some t s (inr (text, is, written)) = inr (text, (true, owned t s text is), written)
 
-        go : (fault : WhereFault) → LeavesWhere (IsWhere job.json checked (accepted_tree image was_validated checked a).0 words) old new fault
+        go : (fault : WhereFault) → LeavesWhere (Owned (accepted_tree image was_validated checked a).0) old new fault
             → Keeps old new ⊎ WritesFrontOf old new (IsSomeText (IsWhereText job))
         go (places.NoBlock word) keeps = inl keeps
         go places.Memory left = some (accepted_tree image was_validated checked a).0 (accepted_tree image was_validated checked a).1 left
@@ -391,14 +397,18 @@ module _ (IsText : Bool → List ℕ → Type 0) (IsPlain : Refusal → Type 0) 
   report_ends old new fault (Err told) is same = subst (λ (f : CommandFault). DoesReport IsText IsPlain MayEnd old new (Err f)) (sym same) is
 
 -- the map of a refused image, as a report
-module _ (form : MapForm) (image : List ℕ) (refusal : Refusal) (kind : List ℕ) (at : ℕ) (of_kind : kind ≡ refusal.kind.now) (of_block : at ≡ refusal.block) (text : List ℕ) (is : IsFaultyMap form image kind at text) where
-  pub mapped : IsImageRefusal image refusal → IsMapReport form false text
+module _ (job : MapJob) (unread : List Bool) (image : List ℕ) (marks : AreMarksOf job.bad (block_count image) [] unread) (refusal : Refusal) (kind : List ℕ) (at : ℕ) (of_kind : kind ≡ refusal.kind.now)
+    (of_block : at ≡ refusal.block) (text : List ℕ) (is : IsFaultyMap job.form unread image kind at text) where
+  pub mapped : IsImageRefusal image refusal → IsMapReport job false text
   mapped refused = (
     image,
     record {
       refusal = refusal;
       refused = refused;
-      mapped = subst (λ (k : List ℕ). IsFaultyMap form image k refusal.block text) of_kind (subst (λ (b : ℕ). IsFaultyMap form image kind b text) of_block is);
+      unread = unread;
+      listed = marks;
+      mapped =
+          subst (λ (k : List ℕ). IsFaultyMap job.form unread image k refusal.block text) of_kind (subst (λ (b : ℕ). IsFaultyMap job.form unread image kind b text) of_block is);
     },
   )
 
@@ -430,40 +440,46 @@ module _ (image old : List ℕ) (fault : VolumeFault) (refusal : Refusal) (hande
 -- the report on a refused image, or why there is none
 module _ (job : WhereJob) (image : List ℕ) where
   -- the refusal and the places, as the output for the refused image
-  module _ (refusal : Refusal) (kind : List ℕ) (at : ℕ) (words : List BlockWord) (of_kind : kind ≡ refusal.kind.now) (of_block : at ≡ refusal.block) (asked : words ≡ job.blocks.items)
-      (refused : IsImageRefusal image refusal) (old new : Option (List ℕ)) where
-    is_placed : (text : List ℕ) → IsFaultyWhere job.json image kind at words text → IsPlacedIn job image text
+  module _ (refusal : Refusal) (kind : List ℕ) (at : ℕ) (asking : Asking) (of_kind : kind ≡ refusal.kind.now) (of_block : at ≡ refusal.block) (asked : asking.words.now ≡ job.blocks.items)
+      (of_json : asking.json ≡ job.json) (marks : AreMarksOf job.bad (block_count image) [] asking.unread.now) (refused : IsImageRefusal image refusal) (old new : Option (List ℕ)) where
+    abbrev Placed : List ℕ → Type 0
+    Placed = IsFaultyWhere asking.json asking.unread.now image kind at asking.words.now
+
+    is_placed : (text : List ℕ) → Placed text → IsPlacedIn job image text
     is_placed text told = record {
       refusal = refusal;
       refused = refused;
+      unread = asking.unread.now;
+      listed = marks;
       placed =
-          subst (λ (k : List ℕ). IsFaultyWhere job.json image k refusal.block job.blocks.items text) of_kind
-          (subst (λ (b : ℕ). IsFaultyWhere job.json image kind b job.blocks.items text) of_block
-          (subst (λ (blocks : List BlockWord). IsFaultyWhere job.json image kind at blocks text) asked told));
+          subst (λ (k : List ℕ). IsFaultyWhere job.json asking.unread.now image k refusal.block job.blocks.items text) of_kind
+          (subst (λ (b : ℕ). IsFaultyWhere job.json asking.unread.now image kind b job.blocks.items text) of_block
+          (subst (λ (blocks : List BlockWord). IsFaultyWhere job.json asking.unread.now image kind at blocks text) asked
+          (subst (λ (json : Bool). IsFaultyWhere json asking.unread.now image kind at asking.words.now text) of_json told)));
     }
 
-    pub placed_written : Writes old new (IsFaultyWhere job.json image kind at words) → Writes old new (IsPlacedIn job image)
+    pub placed_written : Writes old new Placed → Writes old new (IsPlacedIn job image)
     placed_written (text, written, told) = (text, written, is_placed text told)
 
-    some_placed : Keeps old new ⊎ WritesFrontOf old new (IsFaultyWhere job.json image kind at words) → Keeps old new ⊎ WritesFrontOf old new (IsPlacedIn job image)
+    some_placed : Keeps old new ⊎ WritesFrontOf old new Placed → Keeps old new ⊎ WritesFrontOf old new (IsPlacedIn job image)
     some_placed (inl keeps) = inl keeps
     some_placed (inr (text, told, front)) = inr (text, is_placed text told, front)
 
-    pub placed_left : (fault : WhereFault) → LeavesWhere (IsFaultyWhere job.json image kind at words) old new fault → Keeps old new ⊎ WritesFrontOf old new (IsPlacedIn job image)
+    pub placed_left : (fault : WhereFault) → LeavesWhere Placed old new fault → Keeps old new ⊎ WritesFrontOf old new (IsPlacedIn job image)
     placed_left (places.NoBlock word) keeps = inl keeps
     placed_left places.Memory left = some_placed left
     placed_left places.Output left = some_placed left
 
     -- nothing, if an argument names no block
-    pub placed_none : (fault : WhereFault) (word : BlockWord) → fault ≡ places.NoBlock word → LeavesWhere (IsFaultyWhere job.json image kind at words) old new fault
-        → IsWhereFault (block_count image) words fault → Keeps old new × IsUnasked job image refusal
+    pub placed_none : (fault : WhereFault) (word : BlockWord) → fault ≡ places.NoBlock word → LeavesWhere Placed old new fault
+        → IsWhereFault (block_count image) asking.words.now fault → Keeps old new × IsUnasked job image refusal
     placed_none fault word is left none = (
-      subst (LeavesWhere (IsFaultyWhere job.json image kind at words) old new) is left,
+      subst (LeavesWhere Placed old new) is left,
       (
         refused,
         (
           word,
-          subst (λ (blocks : List BlockWord). IsWhereFault (block_count image) blocks (places.NoBlock word)) asked (subst (IsWhereFault (block_count image) words) is none),
+          subst (λ (blocks : List BlockWord). IsWhereFault (block_count image) blocks (places.NoBlock word)) asked (subst (IsWhereFault (block_count image) asking.words.now) is none),
         ),
       ),
     )
@@ -506,10 +522,10 @@ module _ (json : Bool) (IsText BeginsText : List ℕ → List ℕ → Type 0) wh
   failed (OfMade made file) old new fault (put, keeps) plain = (λ is. made_failed json made old new fault (put is) plain, λ other. rw (none_in json fault plain) (inl (keeps other)))
   failed Unsaid old new fault h plain = tt
   failed (OfImages job) old new fault h plain = h
-  failed (OfRescue job) old new fault h plain = report_failed json (IsRescueText job.json) IsSomeSize (λ (fault : CommandFault). IsHostEnd fault job.list) old new fault h plain
+  failed (OfRescue job) old new fault h plain = report_failed json (IsRescueText job) IsSomeSize (λ (fault : CommandFault). IsHostEnd fault job.list) old new fault h plain
   failed (OfDeleted job) old new fault h plain = report_failed json (IsDeletedText job) IsSomeSize IsUndeleteEnd old new fault h plain
   failed (OfBlocks job) old new fault h plain = report_failed json (IsWhereText job) (IsBareRefusal job) MayEnd old new fault h plain
-  failed (OfMap form) old new fault h plain = report_failed json (IsMapReport form) IsBareMap MayEnd old new fault h plain
+  failed (OfMap job) old new fault h plain = report_failed json (IsMapReport job) IsBareMap MayEnd old new fault h plain
   failed OfBytes old new (Refused refusal) h plain = absurd (cc plain)
   failed OfBytes old new (Dos refusal) h plain = absurd (cc plain)
   failed OfBytes old new fault (bytes, inl keeps) plain = (bytes, inl keeps)
@@ -521,10 +537,10 @@ module _ (json : Bool) (IsText BeginsText : List ℕ → List ℕ → Type 0) wh
   unsaid (OfMade made file) old new fault (put, keeps) = (λ is. made_unsaid json made old new fault (put is), λ other. inl (keeps other))
   unsaid Unsaid old new fault h = tt
   unsaid (OfImages job) old new fault h = archive_unsaid job old new fault h
-  unsaid (OfRescue job) old new fault h = report_unsaid json (IsRescueText job.json) IsSomeSize (λ (fault : CommandFault). IsHostEnd fault job.list) old new fault tt h
+  unsaid (OfRescue job) old new fault h = report_unsaid json (IsRescueText job) IsSomeSize (λ (fault : CommandFault). IsHostEnd fault job.list) old new fault tt h
   unsaid (OfDeleted job) old new fault h = report_unsaid json (IsDeletedText job) IsSomeSize IsUndeleteEnd old new fault tt h
   unsaid (OfBlocks job) old new fault h = report_unsaid json (IsWhereText job) (IsBareRefusal job) MayEnd old new fault tt h
-  unsaid (OfMap form) old new fault h = report_unsaid json (IsMapReport form) IsBareMap MayEnd old new fault tt h
+  unsaid (OfMap job) old new fault h = report_unsaid json (IsMapReport job) IsBareMap MayEnd old new fault tt h
   unsaid OfBytes old new (Refused refusal) d = (d.0, inl d.1.1)
   unsaid OfBytes old new (Dos refusal) d = (d.0, inl d.1)
   unsaid OfBytes old new fault (bytes, inl keeps) = (bytes, inl keeps)

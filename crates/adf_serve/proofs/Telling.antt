@@ -22,7 +22,7 @@ use Rattle.adf_script.specs.Told.LinesTell.{ended, answered, closed, faulty}
 use Rattle.adf_serve.specs.Script.{RunsScript, TellsScript, first_moment, work_floppy}
 use Rattle.std.proofs.KnownBytes.{Keeps-refl}
 use Rattle.std.proofs.lemmas.List.{append-nil}
-use Rattle.adf_io.specs.Front.{ReadsFront}
+use Rattle.adf_io.specs.Input.{ReadsFront}
 use Rattle.adf_script.proofs.Telling.{told_through}
 use Rattle.adf_serve.proofs.Floppy.{work_stands}
 

@@ -3,7 +3,7 @@ use Rattle.std.specs.Prelude.{◌≡◌, ℕ, List, Option, Result, Ok, Err}
 use Rattle.adf_archive.specs.Archive.{TellsArchive}
 use Rattle.adf_archive.specs.declared.fault.ArchiveFault.{ArchiveFault}
 use Rattle.adf_archive.specs.declared.fault.ArchiveFault.TheVariants as archive
-use Rattle.adf_words.specs.declared.query.CheckJob.{CheckJob}
+use Rattle.adf_cli.specs.declared.query.CheckJob.{CheckJob}
 use Rattle.adf_serve.specs.declared.fault.CommandFault.{CommandFault}
 use Rattle.adf_serve.specs.declared.fault.CommandFault.TheVariants.{ImagesRefused, Memory, NotChecked, Output}
 

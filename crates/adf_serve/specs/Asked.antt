@@ -1,7 +1,7 @@
 -- The answer to DISK_INFO that the only client of a port takes.
 use Rattle.std.specs.Prelude.{◌≡◌, ℕ, ◌-◌, List, length, Some, slice_get}
 use Rattle.ados_model.specs.declared.answer.Answer.{Answer}
-use Rattle.ados_port.specs.{Outcome.Outcome, Outcome.TheVariants.Taken}
+use Rattle.ados_port.specs.declared.step.{Outcome.Outcome, Outcome.TheVariants.Taken}
 use Rattle.adf_serve.specs.Texts.{OfAccepted, disk_answer}
 
 -- the last of these outcomes is a taken reply with this answer

@@ -1,7 +1,7 @@
 -- The boot block that `boot` installs.
 use Rattle.std.specs.Prelude.{◌≡◌, ℕ, ◌≤◌, List, [], length, Result, Ok, MatchResult}
-use Rattle.adf_words.specs.declared.boot.BootBlock.{BootBlock}
-use Rattle.adf_words.specs.declared.boot.BootBlock.TheVariants.{Empty, Standard, File}
+use Rattle.adf_cli.specs.declared.boot.BootBlock.{BootBlock}
+use Rattle.adf_cli.specs.declared.boot.BootBlock.TheVariants.{Empty, Standard, File}
 use Rattle.adf_block.specs.declared.standard.TheConstants.{STANDARD_BOOT}
 use Rattle.adf_block.specs.HasBoot.{HasBoot, HoldsCode}
 use Rattle.adf_serve.specs.declared.fault.CommandFault.{CommandFault}

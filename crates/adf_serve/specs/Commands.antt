@@ -2,16 +2,17 @@
 use Rattle.std.specs.Prelude.{◌≡◌, ◌≢◌, ◌⊎◌, ⊤, codes, ℕ, Bool, true, false, List, Option, Some, Result, Ok, Err, MatchOption, MatchResult}
 use Rattle.std.specs.Io.KnownBytes.{Keeps}
 use Rattle.adf_io.specs.Prefix.{Writes, WritesFrontOf}
-use Rattle.adf_words.specs.declared.job.ImageJob.{ImageJob}
-use Rattle.adf_words.specs.declared.job.ImageJob.TheVariants.{AddBundle, Blank, Check, Extract, ExtractBundle, Change, Boot, Info, List as ListOf, Map, SaveBoot, Salvage, Serve, Show, ShowBoot, Undelete, Validate, Where, WherePath}
-use Rattle.adf_words.specs.declared.map_form.MapForm.{MapForm}
-use Rattle.adf_words.specs.declared.map_form.MapForm.TheVariants as maps
-use Rattle.adf_words.specs.declared.query.ListForm.{ListForm}
-use Rattle.adf_words.specs.declared.query.ListForm.TheVariants.{Json}
-use Rattle.adf_words.specs.declared.query.CheckJob.{CheckJob}
-use Rattle.adf_words.specs.declared.query.SalvageJob.{SalvageJob}
-use Rattle.adf_words.specs.declared.query.UndeleteJob.{UndeleteJob}
-use Rattle.adf_words.specs.declared.query.WhereJob.{WhereJob}
+use Rattle.adf_cli.specs.declared.job.ImageJob.{ImageJob}
+use Rattle.adf_cli.specs.declared.job.ImageJob.TheVariants.{AddBundle, Blank, Check, Extract, ExtractBundle, Change, Boot, Info, List as ListOf, Map, SaveBoot, Salvage, Serve, Show, ShowBoot, Undelete, Validate, Where, WherePath}
+use Rattle.adf_cli.specs.declared.map_form.MapForm.{MapForm}
+use Rattle.adf_cli.specs.declared.map_form.MapForm.TheVariants as maps
+use Rattle.adf_cli.specs.declared.query.ListForm.{ListForm}
+use Rattle.adf_cli.specs.declared.query.ListForm.TheVariants.{Json}
+use Rattle.adf_cli.specs.declared.query.CheckJob.{CheckJob}
+use Rattle.adf_cli.specs.declared.query.MapJob.{MapJob}
+use Rattle.adf_cli.specs.declared.query.SalvageJob.{SalvageJob}
+use Rattle.adf_cli.specs.declared.query.UndeleteJob.{UndeleteJob}
+use Rattle.adf_cli.specs.declared.query.WhereJob.{WhereJob}
 use Rattle.adf_serve.specs.declared.fault.CommandFault.{CommandFault}
 use Rattle.adf_serve.specs.declared.fault.CommandFault.TheVariants.{Dos, Refused}
 use Rattle.adf_serve.specs.Archives.{EndsArchive}
@@ -56,7 +57,7 @@ is_json_map form = false
 abbrev pub prints_json : ImageJob → Bool
 prints_json (Info file json) = json
 prints_json (Show image json) = json
-prints_json (Map image form) = is_json_map form
+prints_json (Map job) = is_json_map job.form
 prints_json (Where job) = job.json
 prints_json (WherePath image path json) = json
 prints_json (ShowBoot image json) = json
@@ -78,7 +79,7 @@ pub data Prints : Type 0 where
   OfRescue : SalvageJob → Prints
   OfDeleted : UndeleteJob → Prints
   OfBlocks : WhereJob → Prints
-  OfMap : MapForm → Prints
+  OfMap : MapJob → Prints
   Unsaid : Prints
 
 abbrev pub prints : ImageJob → Prints
@@ -86,7 +87,7 @@ prints (Check job) = OfImages job
 prints (Salvage job) = OfRescue job
 prints (Undelete job) = OfDeleted job
 prints (Where job) = OfBlocks job
-prints (Map image form) = OfMap form
+prints (Map job) = OfMap job
 prints (Extract job) = OnlyFaults
 prints (ExtractBundle image to) = OnlyFaults
 prints (Blank format blocks moment name letters file) = OfMade AnImage (Some file.now)
@@ -106,7 +107,7 @@ Does (OfImages job) IsText BeginsText old new result = EndsArchive job old new r
 Does (OfRescue job) IsText BeginsText old new result = DoesRescue job old new result
 Does (OfDeleted job) IsText BeginsText old new result = DoesUndelete job old new result
 Does (OfBlocks job) IsText BeginsText old new result = DoesWhere job old new result
-Does (OfMap form) IsText BeginsText old new result = DoesMap form old new result
+Does (OfMap job) IsText BeginsText old new result = DoesMap job old new result
 Does Unsaid IsText BeginsText old new result = ⊤
 
 abbrev pub DoesJob : ImageJob → Option (List ℕ) → Option (List ℕ) → Ending → Type 0
@@ -150,7 +151,7 @@ Tells json (OfImages job) IsText BeginsText old new result = EndsArchive job old
 Tells json (OfRescue job) IsText BeginsText old new result = TellsRescue json job old new result
 Tells json (OfDeleted job) IsText BeginsText old new result = TellsUndelete json job old new result
 Tells json (OfBlocks job) IsText BeginsText old new result = TellsWhere json job old new result
-Tells json (OfMap form) IsText BeginsText old new result = TellsMap json form old new result
+Tells json (OfMap job) IsText BeginsText old new result = TellsMap json job old new result
 Tells json Unsaid IsText BeginsText old new result = ⊤
 
 -- the result of a job

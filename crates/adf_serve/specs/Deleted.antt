@@ -4,7 +4,7 @@ use Rattle.adf_rescue.specs.Undelete.{IsUndeleteFault}
 use Rattle.adf_rescue.specs.declared.undelete_fault.UndeleteFault.{UndeleteFault}
 use Rattle.adf_rescue.specs.declared.undelete_fault.UndeleteFault.TheVariants as undelete
 use Rattle.adf_where.specs.Refused.{fault_reason, refused_object}
-use Rattle.adf_words.specs.declared.query.UndeleteJob.{UndeleteJob}
+use Rattle.adf_cli.specs.declared.query.UndeleteJob.{UndeleteJob}
 use Rattle.adf_serve.specs.declared.fault.CommandFault.{CommandFault}
 use Rattle.adf_serve.specs.declared.fault.CommandFault.TheVariants.{Extracted, Memory, Undelete}
 use Rattle.adf_serve.specs.Reports.{DoesReport, TellsReport}

@@ -1,6 +1,7 @@
--- The floppy for the program's script and the script's output; the output of commands for images and for refusals, the messages
+-- The floppy for the program's script and the script's output; lists of blocks that could not be read; the output of commands for images and for refusals, the messages
 -- of their faults, the boot blocks that they install, the images that they write, and how they and a command line end.
 pub mod Script
+pub mod Unread
 pub mod Texts
 pub mod Asked
 pub mod Refusals

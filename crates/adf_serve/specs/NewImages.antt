@@ -3,7 +3,7 @@ use Rattle.std.specs.Prelude.{◌≡◌, ◌≢◌, ◌⊎◌, ℕ, false, List,
 use Rattle.std.specs.Io.KnownBytes.{Keeps}
 use Rattle.adf_block.specs.Whole.{IsImage}
 use Rattle.adf_io.specs.Prefix.{Writes, WritesFrontOf}
-use Rattle.adf_words.specs.declared.change.Rewrite.{Rewrite}
+use Rattle.adf_cli.specs.declared.change.Rewrite.{Rewrite}
 use Rattle.adf_serve.specs.declared.fault.CommandFault.{CommandFault}
 use Rattle.adf_serve.specs.Refusals.{told_line}
 

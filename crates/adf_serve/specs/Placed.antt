@@ -1,25 +1,28 @@
 -- How `where` ends for blocks: the output for an accepted image, and for a refused one.
-use Rattle.std.specs.Prelude.{◌≡◌, ◌⊎◌, ℕ, Bool, true, false, List, Option, Result, ⊤}
+use Rattle.std.specs.Prelude.{◌≡◌, ◌⊎◌, ℕ, Bool, true, false, List, [], Option, Result, ⊤}
 use Rattle.std.specs.Io.KnownBytes.{Keeps}
 use Rattle.adf_io.specs.Prefix.{WritesFrontOf}
 use Rattle.adf_block.specs.Image.{block_count}
 use Rattle.adf_where.specs.declared.where_fault.WhereFault.TheVariants.{NoBlock}
 use Rattle.adf_where.specs.Faulty.{IsFaultyWhere}
 use Rattle.adf_where.specs.Where.{IsWhereFault}
-use Rattle.adf_words.specs.declared.block_word.BlockWord.{BlockWord}
-use Rattle.adf_words.specs.declared.query.WhereJob.{WhereJob}
+use Rattle.adf_cli.specs.declared.block_word.BlockWord.{BlockWord}
+use Rattle.adf_cli.specs.declared.query.WhereJob.{WhereJob}
 use Rattle.adf_serve.specs.declared.fault.CommandFault.{CommandFault}
 use Rattle.adf_serve.specs.declared.fault.CommandFault.TheVariants.{Memory, Output, Refused}
 use Rattle.adf_serve.specs.Refusals.{IsImageRefusal, IsSizeRefusal}
 use Rattle.adf_serve.specs.declared.refusal.Refusal.{Refusal}
 use Rattle.adf_serve.specs.Reports.{DoesReport, TellsReport}
 use Rattle.adf_serve.specs.Texts.{AreOwnedBlocks}
+use Rattle.adf_serve.specs.Unread.{AreMarksOf}
 
--- the output for this refused image: why it is refused, the places that name the blocks, and their faults
+-- the output for this refused image: why it is refused, the places that name the blocks, their faults, and which of them the list names
 pub record IsPlacedIn (job : WhereJob) (image : List ℕ) (text : List ℕ) : Type 0 where
   pub refusal : Refusal
   pub refused : IsImageRefusal image refusal
-  pub placed : IsFaultyWhere job.json image refusal.kind.now refusal.block job.blocks.items text
+  pub unread : List Bool
+  pub listed : AreMarksOf job.bad (block_count image) [] unread
+  pub placed : IsFaultyWhere job.json unread image refusal.kind.now refusal.block job.blocks.items text
 
 -- the output for an accepted image, the owners of the blocks, or for a refused one
 abbrev pub IsWhereText : WhereJob → Bool → List ℕ → Type 0

@@ -11,27 +11,29 @@ use Rattle.ados_model.specs.Tree.{Tree, bytes_of, root}
 use Rattle.ados_model.specs.Change.{is_file}
 use Rattle.ados_model.specs.Objects.{disk_info}
 use Rattle.adf_block.specs.BootText.{IsBootText}
+use Rattle.adf_block.specs.Image.{block_count}
 use Rattle.adf_export.specs.Info.{info_text}
 use Rattle.adf_export.specs.Listing.{BeginsList, IsList}
 use Rattle.adf_record.specs.BootObject.{IsBootObject}
-use Rattle.adf_record.specs.declared.told.FactsForm.{FactsForm}
-use Rattle.adf_record.specs.Told.{IsVolumeText, is_json}
-use Rattle.adf_words.specs.declared.job.ImageJob.{ImageJob}
-use Rattle.adf_words.specs.declared.job.ImageJob.TheVariants.{Info, List as ListOf, Print, Show, ShowBoot, Validate, WherePath}
-use Rattle.adf_words.specs.declared.query.ListForm.{ListForm}
-use Rattle.adf_words.specs.declared.query.ListForm.TheVariants.{Bold, Long}
-use Rattle.adf_words.specs.declared.query.ListJob.{ListJob}
-use Rattle.adf_words.specs.declared.query.ListOrder.{ListOrder}
-use Rattle.adf_words.specs.declared.query.UndeleteJob.{UndeleteJob}
-use Rattle.adf_words.specs.declared.query.WhereJob.{WhereJob}
+use Rattle.adf_record.specs.declared.facts_form.FactsForm.{FactsForm}
+use Rattle.adf_record.specs.Forms.{IsVolumeText, is_json}
+use Rattle.adf_cli.specs.declared.job.ImageJob.{ImageJob}
+use Rattle.adf_cli.specs.declared.job.ImageJob.TheVariants.{Info, List as ListOf, Print, Show, ShowBoot, Validate, WherePath}
+use Rattle.adf_cli.specs.declared.query.ListForm.{ListForm}
+use Rattle.adf_cli.specs.declared.query.ListForm.TheVariants.{Bold, Long}
+use Rattle.adf_cli.specs.declared.query.ListJob.{ListJob}
+use Rattle.adf_cli.specs.declared.query.ListOrder.{ListOrder}
+use Rattle.adf_cli.specs.declared.query.UndeleteJob.{UndeleteJob}
+use Rattle.adf_cli.specs.declared.query.WhereJob.{WhereJob}
 use Rattle.adf_rescue.specs.Undelete.{IsUndeleteText, key_of}
 use Rattle.adf_where.specs.Own.{IsWhereOf}
 use Rattle.adf_where.specs.Where.{IsWhere}
 use Rattle.adf_export.specs.Words.{LeadsTo}
 use Rattle.adf_serve.specs.declared.query.Query.{Query}
 use Rattle.adf_serve.specs.declared.query.Query.TheVariants as queries
-use Rattle.ados_mend.specs.Said.{validated_text}
-use Rattle.ados_mend.specs.Validated.{IsValidated, free_only_in}
+use Rattle.adf_serve.specs.Unread.{AreMarksOf}
+use Rattle.ados_validate.specs.Said.{validated_text}
+use Rattle.ados_validate.specs.Validated.{IsValidated, free_only_in}
 
 -- a text for an accepted image: by whether its bitmap was rebuilt, by the checked image, and by its tree
 abbrev pub OfAccepted : (Bool → List ℕ → Tree → List ℕ → Type 0) → List ℕ → List ℕ → Type 0
@@ -88,9 +90,11 @@ IsLook json was_validated checked t text = (form : FactsForm) × (is_json form �
 abbrev pub IsLookText : Bool → List ℕ → List ℕ → Type 0
 IsLookText json = OfAccepted (IsLook json)
 
--- who owns the blocks that a job asks for: a line for each, or a JSON array
+-- who owns the blocks that a job asks for, and which of them its list names: a line for each, or a JSON array
 abbrev pub AreOwnedBlocks : WhereJob → List ℕ → List ℕ → Type 0
-AreOwnedBlocks job = OfAccepted (λ was_validated checked t text. IsWhere job.json checked t job.blocks.items text)
+AreOwnedBlocks job image text =
+    (unread : List Bool) × AreMarksOf job.bad (block_count image) [] unread
+    × OfAccepted (λ was_validated checked t told. IsWhere job.json unread checked t job.blocks.items told) image text
 
 -- the blocks of the file or directory at a path, in one of the forms
 abbrev pub AreEntryBlocks : Bool → List ℕ → List ℕ → List ℕ → Type 0

@@ -1,11 +1,12 @@
 //! Lists of blocks that could not be read.
-ghost use Rattle.std.specs.Prelude.{◌<◌, All, IfErr, IfOk};
+ghost use Rattle.std.specs.Prelude.{◌<◌, [], All, IfErr, IfOk};
 ghost use Rattle.adf_serve.specs.Faults.{IsNoImage};
+ghost use Rattle.adf_serve.specs.Unread.{AreListed, AreMarksOf};
 
 use crate::fault::CommandFault;
+use adf_cli::{BadFault, bad_blocks, marked};
 use adf_host::{input_path, why_unreadable};
 use adf_io::read_bounded;
-use adf_where::{BadFault, bad_blocks};
 use std::alloc::Global;
 use std::fs;
 use std::rt::Files;
@@ -13,23 +14,35 @@ use std::rt::Files;
 /// The most bytes of a list: some forty for each block of the largest image.
 const LONGEST: usize = 4_194_304;
 
-/// The holes of an image with so many blocks, and the blocks that a list names. `holes` is empty, or has a mark for each block.
+/// For each block of an image with so many, whether a list names it as one that could not be read; nothing without a list.
+pub(crate) fn unread_blocks<'a, R: Files>(
+    rt: &R,
+    alloc: Global,
+    list: Option<&'a str>,
+    blocks: u32,
+) -> Result<Vec<bool>, CommandFault<'a>>
+    ensures unread { IfOk result (λ unread. AreMarksOf list.entry blocks [] unread.items) }
+    ensures fault { IfErr result IsNoImage }
+{
+    with_bad(rt, alloc, list, blocks, Vec::new(alloc))
+}
+
+/// The marks of an image with so many blocks, and with a list those of the blocks that it names.
 pub(crate) fn with_bad<'a, R: Files>(
     rt: &R,
     alloc: Global,
-    list: &'a str,
+    list: Option<&'a str>,
     blocks: u32,
-    holes: Vec<bool>,
+    before: Vec<bool>,
 ) -> Result<Vec<bool>, CommandFault<'a>>
-    ensures { IfErr result IsNoImage }
+    ensures marks { IfOk result (λ marks. AreMarksOf list.entry blocks before.items marks.items) }
+    ensures fault { IfErr result IsNoImage }
 {
+    let Some(list) = list else {
+        return Ok(before);
+    };
     let bad = read_bad(rt, alloc, list, blocks)?;
-    let mut holes = holes;
-    holes.resize(blocks as usize, false)?;
-    for block in &bad {
-        holes[*block as usize] = true;
-    }
-    Ok(holes)
+    Ok(marked(blocks, before, &bad)?)
 }
 
 /// The blocks that a list names of an image with so many blocks.
@@ -39,6 +52,7 @@ fn read_bad<'a, R: Files>(
     list: &'a str,
     blocks: u32,
 ) -> Result<Vec<u32>, CommandFault<'a>>
+    ensures listed { IfOk result (λ bad. AreListed blocks bad.items) }
     ensures inside { IfOk result (λ bad. All (λ block. block < blocks) bad.items) }
     ensures fault { IfErr result IsNoImage }
 {

@@ -1,7 +1,7 @@
 //! The command `boot`, and the boot block of any image.
 ghost use Rattle.std.specs.Prelude.{IfErr, IfOk, Some};
 ghost use Rattle.adf_block.specs.BootCode.{boot_bytes};
-ghost use Rattle.adf_io.specs.Front.{ReadsUpTo};
+ghost use Rattle.adf_io.specs.Input.{ReadsUpTo};
 ghost use Rattle.adf_serve.specs.Boot.{PutsBoot, PutsFile};
 ghost use Rattle.adf_serve.specs.Commands.{TellsSome};
 ghost use Rattle.adf_serve.specs.Faults.{IsNoImage};
@@ -17,12 +17,11 @@ use adf_block::layout::{BLOCK_BYTES, FEWEST_BLOCKS};
 use adf_block::{
     BootCode, Image, boot_bytes, boot_code, boot_image, boot_text, code_line, install_standard,
 };
-use adf_host::{PromptFiles, input_path, refuse_length, why_unreadable};
+use adf_cli::{BootBlock, ImageFile, Rewrite};
+use adf_host::{PromptFiles, WriteFault, WriteWhy, input_path, refuse_length, why_unreadable};
 use adf_io::{LoadFault, read_bounded};
 use adf_record::boot_object;
 use adf_text::print_line;
-use adf_words::{BootBlock, ImageFile, Rewrite};
-use host_trees::{WriteFault, WriteWhy};
 use std::alloc::{AllocError, Global};
 use std::fs::{self, File, OpenFile};
 use std::io::{Error, ErrorKind, Read, Write};

@@ -5,10 +5,10 @@ ghost use Rattle.adf_serve.specs.Explained.{IsDeniedPath};
 
 use crate::fault::CommandFault;
 use crate::refusal::{Detail, DosRefusal};
+use adf_cli::{Change, Refused};
 use adf_export::{locate_word, path_of};
 use adf_import::{InFault, NameWhy, denied_entry, wrong_name};
 use adf_text::letter_text;
-use adf_words::{Change, Refused};
 use ados_model::DosError;
 use ados_volume::Volume;
 use std::alloc::Global;

@@ -5,18 +5,17 @@ ghost use Rattle.adf_serve.specs.Refusals.{told_line};
 
 use crate::refusal::{Detail, DosRefusal, Refusal, Room};
 use adf_archive::ArchiveFault;
+use adf_cli::Refused;
 use adf_export::{BundleOutFault, OutFault};
-use adf_host::{HoldFault, ReadReason, ReplaceFault, why_unreadable};
+use adf_host::{HoldFault, ReadReason, ReplaceFault, WriteFault, why_unreadable};
 use adf_import::{InFault, SourceFault, WrongVolume};
 use adf_io::{InputFault, PrintFault};
 use adf_record::Grouped;
 use adf_rescue::UndeleteFault;
-use adf_words::Refused;
-use ados_mend::NotValidated;
 use ados_model::DosError;
 use ados_run::ScriptsFault;
+use ados_validate::NotValidated;
 use ados_volume::VolumeFault;
-use host_trees::WriteFault;
 use std::alloc::{AllocError, Global};
 use std::fmt;
 use std::rt::Files;
@@ -33,7 +32,7 @@ pub enum CommandFault<'a> {
     Write(&'a str, ReplaceFault),
     /// The file for the changed image is no image, and may be precious.
     #[error("'{0}' is not an image: --over writes over it")]
-    Precious(&'a str),
+    NotAnImage(&'a str),
     #[error("'{0}' {1}")]
     Held(&'a str, HoldFault),
     #[error("the clock cannot be read")]
@@ -108,7 +107,7 @@ impl Drop for CommandFault<'_> {
             CommandFault::Read(_, _)
             | CommandFault::Endless(_)
             | CommandFault::Write(_, _)
-            | CommandFault::Precious(_)
+            | CommandFault::NotAnImage(_)
             | CommandFault::Held(_, _)
             | CommandFault::Clock
             | CommandFault::Output

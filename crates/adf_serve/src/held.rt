@@ -1,6 +1,6 @@
 //! What is printed of an image that another command works on.
 use adf_archive::tell_held;
-use adf_words::ImageJob;
+use adf_cli::ImageJob;
 use std::fs::File;
 use std::io::Write;
 use std::rt::Files;
@@ -31,7 +31,7 @@ fn only_reads(job: &ImageJob<'_>) -> bool {
         | ImageJob::Boot { .. } => false,
         ImageJob::Info { .. }
         | ImageJob::Show { .. }
-        | ImageJob::Map { .. }
+        | ImageJob::Map(_)
         | ImageJob::Where(_)
         | ImageJob::WherePath { .. }
         | ImageJob::List(_)

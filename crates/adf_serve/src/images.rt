@@ -9,12 +9,12 @@ use crate::fault::CommandFault;
 use crate::output::{is_output, put_image};
 use crate::refusal::Refusal;
 use adf_block::Image;
+use adf_cli::{ImageFile, Rewrite};
 use adf_host::{
     HeldFile, HoldFault, PromptFiles, ReadReason, hold, hold_target, read_image_file, replace_file,
     why_no_image, why_unreadable,
 };
 use adf_io::{LoadFault, Loaded};
-use adf_words::{ImageFile, Rewrite};
 use ados_volume::{Volume, check};
 use std::alloc::Global;
 use std::fs::{self, File};
@@ -199,7 +199,7 @@ impl<'a> Work<'a> {
             Err(fault) => return Err(CommandFault::Held(out, fault)),
         };
         if target.out.is_some() && !target.over && !to_output {
-            refuse_precious(rt, out, held_out.as_mut())?;
+            refuse_no_image(rt, out, held_out.as_mut())?;
         }
         Ok(Work {
             held,
@@ -259,7 +259,7 @@ fn goes_to_output(target: Rewrite<'_>) -> bool
 
 /// Refuses to write over a regular file that is neither empty nor begins as an image does. One that cannot be read may be
 /// precious too.
-fn refuse_precious<'a, R: Files<File = File> + PromptFiles>(
+fn refuse_no_image<'a, R: Files<File = File> + PromptFiles>(
     rt: &R,
     out: &'a str,
     held: Option<&mut HeldFile>,
@@ -269,7 +269,7 @@ fn refuse_precious<'a, R: Files<File = File> + PromptFiles>(
     match held {
         Some(held) => match held.may_be_image() {
             Ok(true) => Ok(()),
-            Ok(false) => Err(CommandFault::Precious(out)),
+            Ok(false) => Err(CommandFault::NotAnImage(out)),
             Err(error) => Err(CommandFault::Read(out, ReadReason::from(error))),
         },
         None if fs::metadata(rt, out).is_ok_and(|found| found.is_file()) => {

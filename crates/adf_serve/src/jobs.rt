@@ -16,9 +16,9 @@ use crate::screen::Screen;
 use crate::serving::serve;
 use crate::validate::validate_file;
 use adf_archive::{ReadImages, check_archive};
+use adf_cli::ImageJob;
 use adf_host::PromptFiles;
 use adf_import::StandardInput;
-use adf_words::ImageJob;
 use std::alloc::Global;
 use std::fs::File;
 use std::io::Write;
@@ -50,7 +50,7 @@ where
         }
         ImageJob::Info { file, json } => print_query(rt, alloc, *file, Query::Disk { json: *json }, screen.styled, writer),
         ImageJob::Show { image, json } => print_query(rt, alloc, *image, Query::Look { json: *json }, screen.styled, writer),
-        ImageJob::Map { image, form } => tell_map(rt, alloc, *image, *form, writer, faults),
+        ImageJob::Map(job) => tell_map(rt, alloc, job, writer, faults),
         ImageJob::Where(job) => tell_where(rt, alloc, job, writer, faults),
         ImageJob::WherePath { image, path, json } => {
             print_query(rt, alloc, *image, Query::Entry { path: *path, json: *json }, screen.styled, writer)

@@ -2,7 +2,7 @@
 ghost use Rattle.std.specs.Prelude.{◌≡◌};
 ghost use Rattle.adf_serve.specs.Commands.{is_json_list, is_json_map, prints_json};
 
-use adf_words::{ImageJob, ListForm, MapForm};
+use adf_cli::{ImageJob, ListForm, MapForm};
 
 /// Whether a job prints JSON, and nothing else.
 pub(crate) fn prints_json(job: &ImageJob<'_>) -> bool
@@ -14,7 +14,7 @@ pub(crate) fn prints_json(job: &ImageJob<'_>) -> bool
         | ImageJob::WherePath { json, .. }
         | ImageJob::ShowBoot { json, .. }
         | ImageJob::Validate { json, .. } => *json,
-        ImageJob::Map { form, .. } => is_json_map(*form),
+        ImageJob::Map(job) => is_json_map(job.form),
         ImageJob::Where(job) => job.json,
         ImageJob::List(job) => is_json_list(job.form),
         ImageJob::Check(job) => job.json,

@@ -2,7 +2,7 @@
 ghost use Rattle.std.specs.Prelude.{◌≡◌, IfOk};
 ghost use Rattle.ados_model.specs.Stands.{Stands};
 ghost use Rattle.ados_model.specs.Tree.{Tree};
-ghost use Rattle.adf_record.specs.Told.{is_json};
+ghost use Rattle.adf_record.specs.Forms.{is_json};
 ghost use Rattle.adf_serve.specs.Commands.{TellsOf};
 ghost use Rattle.adf_serve.specs.Texts.{IsLook, IsLookText};
 

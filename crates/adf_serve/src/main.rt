@@ -39,12 +39,12 @@ mod validate;
 // Scripts over an image.
 mod serving;
 
+use adf_cli::given_words;
 use adf_host::{LimitedInput, LimitedOutput, Stream};
 pub use adf_import::StandardInput;
 pub use adf_io::{LoadFault, StoreFault, load_image, store_image};
 use adf_script::LONGEST_SCRIPT;
 pub use adf_script::TryFault;
-use adf_words::given_words;
 pub use ados_run::{
     ClientDone, Gate, RunFault, ScriptsDone, ScriptsFault, run_volume, serve_scripts,
 };

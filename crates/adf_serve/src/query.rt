@@ -8,7 +8,7 @@ use crate::images::read_image;
 use crate::info::tell_info;
 use crate::look::tell_look;
 use crate::moving::{tell_bytes, tell_list};
-use adf_words::{ImageFile, ListJob};
+use adf_cli::{ImageFile, ListJob};
 use std::alloc::Global;
 use std::io::Write;
 use std::rt::Files;

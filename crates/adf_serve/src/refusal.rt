@@ -6,11 +6,11 @@ ghost use Rattle.adf_serve.specs.Refusals.{dos_text, refusal_text};
 
 use adf_archive::{ReadImages, explain_refused, kind_word, size_word};
 use adf_block::SizeFault;
+use adf_cli::{ImageFile, Refused};
 use adf_import::NameWhy;
 use adf_record::Grouped;
 use adf_text::push_plain;
 use adf_where::{FaultReason, dos_refused_text, refused_text};
-use adf_words::{ImageFile, Refused};
 use ados_volume::{FaultKind, VolumeFault};
 use std::alloc::{AllocError, Global};
 use std::fmt;

@@ -1,8 +1,8 @@
 //! The command `extract --damaged`.
-ghost use Rattle.std.specs.Prelude.{ℕ, Bool, List, IfErr, IfOk};
+ghost use Rattle.std.specs.Prelude.{◌≡◌, ℕ, Bool, List, [], None, IfErr, IfOk};
 ghost use Rattle.adf_rescue.specs.Rescue.{IsRescue};
 ghost use Rattle.adf_serve.specs.Faults.{IsNoImage};
-ghost use Rattle.adf_serve.specs.Rescues.{DoesRescue, IsRescueEnd};
+ghost use Rattle.adf_serve.specs.Rescues.{AreHoles, DoesRescue, IsRescueEnd};
 
 use crate::bad::with_bad;
 use crate::boot::tell_boot;
@@ -10,12 +10,12 @@ use crate::fault::CommandFault;
 use crate::images::{read_image, unread};
 use crate::kind_line::tell_kind;
 use adf_block::Image;
+use adf_cli::{ImageFile, SalvageJob};
 use adf_host::{PromptFiles, read_filled_file};
 use adf_io::{Filled, PrintFault, write_output};
 use adf_record::Grouped;
-use adf_rescue::{Doubt, Rescue, RescueFault, extract_damaged};
+use adf_rescue::{Rescue, RescueFault, extract_damaged};
 use adf_text::print_line;
-use adf_words::{ImageFile, SalvageJob};
 use std::alloc::Global;
 use std::fs::File;
 use std::io::Write;
@@ -50,13 +50,11 @@ fn read_holed<'a, R: Files, F: Write>(
     job: &SalvageJob<'a>,
     faults: &mut F,
 ) -> Result<(Image, Vec<bool>), CommandFault<'a>>
-    ensures { IfErr result IsNoImage }
+    ensures holes { IfOk result (λ found. AreHoles job.now found.0 found.1.items) }
+    ensures fault { IfErr result IsNoImage }
 {
-    let (image, holes) = read_filled(rt, alloc, job.image, faults)?;
-    let Some(list) = job.bad else {
-        return Ok((image, holes));
-    };
-    let holes = with_bad(rt, alloc, list, image.blocks(), holes)?;
+    let (image, missing) = read_filled(rt, alloc, job.image, faults)?;
+    let holes = with_bad(rt, alloc, job.bad, image.blocks(), missing)?;
     Ok((image, holes))
 }
 
@@ -68,7 +66,8 @@ fn read_filled<'a, R: Files, F: Write>(
     file: ImageFile<'a>,
     faults: &mut F,
 ) -> Result<(Image, Vec<bool>), CommandFault<'a>>
-    ensures { IfErr result IsNoImage }
+    ensures missing { IfOk result (λ found. file.entry.blocks ≡ None → found.1.items ≡ []) }
+    ensures fault { IfErr result IsNoImage }
 {
     let ImageFile { path, blocks } = file;
     let Some(blocks) = blocks else {
@@ -106,8 +105,8 @@ fn tell_missing<F: Write>(path: &str, blocks: u32, filled: &Filled, faults: &mut
     );
 }
 
-/// Reports on a rescue, and prints on `faults` what `whole` means in FFS, why entries are doubtful, which files are cut short, and which
-/// used blocks belong to nothing.
+/// Reports on a rescue, and prints on `faults` what `whole` means in FFS, why entries are doubtful or cut short, which bytes of files are
+/// missing, and which used blocks belong to nothing.
 fn tell_rescue<'a, W: Write, F: Write>(
     alloc: Global,
     rescue: &Rescue,
@@ -115,7 +114,7 @@ fn tell_rescue<'a, W: Write, F: Write>(
     writer: &mut W,
     faults: &mut F,
 ) -> Result<(), CommandFault<'a>>
-    ensures { (holes : List Bool) (image : List ℕ) → IsRescue holes image rescue.now → DoesRescue job.now (W.contents writer.old) (W.contents writer.new) result }
+    ensures { (holes : List Bool) (image : List ℕ) → AreHoles job.now image holes → IsRescue holes image rescue.now → DoesRescue job.now (W.contents writer.old) (W.contents writer.new) result }
 {
     tell_sums(rescue, faults);
     tell_doubts(alloc, rescue, faults);
@@ -140,13 +139,25 @@ fn tell_sums<F: Write>(rescue: &Rescue, faults: &mut F) {
     }
 }
 
-/// Prints why entries are doubtful or cut short.
+/// Prints why entries are doubtful or cut short, and which bytes of them are missing.
 fn tell_doubts<F: Write>(alloc: Global, rescue: &Rescue, faults: &mut F) {
     for place in 0..rescue.len() {
         if let Ok(Some((path, doubt))) = rescue.doubt_at(alloc, place) {
-            let (path, why) = (path.as_str(), text_of(doubt));
-            print_line(faults, format_args!("adf_serve: '{path}' is {why}"));
+            let (path, word, reason) = (path.as_str(), doubt.word(), doubt.reason());
+            print_line(
+                faults,
+                format_args!("adf_serve: '{path}' is {word}: {reason}"),
+            );
         }
+        tell_missing_at(alloc, rescue, place, faults);
+    }
+}
+
+/// Prints which bytes of the entry at a position are missing, if some are.
+fn tell_missing_at<F: Write>(alloc: Global, rescue: &Rescue, place: usize, faults: &mut F) {
+    if let Ok(Some((path, missing))) = rescue.missing_at(alloc, place) {
+        let (path, missing) = (path.as_str(), missing.as_str());
+        print_line(faults, format_args!("adf_serve: '{path}': {missing}"));
     }
 }
 
@@ -162,30 +173,6 @@ fn tell_unaccounted<F: Write>(alloc: Global, rescue: &Rescue, faults: &mut F) {
         }
     }
 }
-
-/// Why an entry is doubtful or cut short, after its path.
-fn text_of(doubt: Doubt) -> &'static str {
-    match doubt {
-        Doubt::Header => HEADER,
-        Doubt::Blocks => BLOCKS,
-        Doubt::Gone => GONE,
-        Doubt::Cut => CUT,
-    }
-}
-
-/// A directory or file is doubtful because of its header.
-const HEADER: &str = "doubtful: its header has a wrong checksum or too long a comment";
-
-/// A file with a sound header is doubtful because of another block.
-const BLOCKS: &str =
-    "doubtful: a block of it has a wrong checksum or field, or is in another file too";
-
-/// A file is doubtful because it has no header.
-const GONE: &str = "doubtful: its header is gone, and it is made of the data blocks that name it";
-
-/// A file is cut short because of the bound for all of them.
-const CUT: &str =
-    "cut short: incomplete files may have at most four times the bytes of the image in all";
 
 /// The rescue of an image with these holes.
 fn rescue_of<'a, R: Files<File = File> + PromptFiles>(

@@ -7,8 +7,8 @@ ghost use Rattle.adf_serve.specs.Script.{RunsScript, TellsScript, first_moment};
 
 use crate::info::FIRST_MOMENT;
 use adf_block::Format;
+use adf_cli::last_number;
 use adf_script::{TryFault, read_script, run_script};
-use adf_words::last_number;
 use ados_handler::Handler;
 use ados_name::Name;
 use ados_volume::blank;

@@ -3,15 +3,15 @@ ghost use Rattle.std.specs.Prelude.{MatchResult};
 ghost use Rattle.adf_serve.specs.Commands.{TellsSome};
 ghost use Rattle.adf_serve.specs.Faults.{IsRefusedAs};
 ghost use Rattle.adf_serve.specs.Texts.{IsCountText};
-ghost use Rattle.ados_mend.specs.Answer.{IsNew};
+ghost use Rattle.ados_validate.specs.Answer.{IsNew};
 
 use crate::fault::CommandFault;
 use crate::images::Work;
 use crate::output::tell;
 use adf_block::Image;
+use adf_cli::Rewrite;
 use adf_host::PromptFiles;
-use adf_words::Rewrite;
-use ados_mend::{NotValidated, Validated, validate};
+use ados_validate::{NotValidated, Validated, validate};
 use std::alloc::Global;
 use std::fs::File;
 use std::io::Write;

@@ -3,9 +3,9 @@
 #![tactic(auto)]
 
 mod escapes;
-mod front_date;
 mod grouped;
 mod host;
+mod leading_date;
 mod letters;
 mod plain;
 mod protect_words;
@@ -15,9 +15,9 @@ mod uaem;
 mod uaem_reader;
 mod written;
 
-pub use front_date::date_of_text;
 pub use grouped::Grouped;
 pub use host::{host_name, host_name_bytes, host_names_come_back};
+pub use leading_date::date_of_text;
 pub use letters::{LettersFault, letter_bytes, letter_text, letters_come_back};
 pub use plain::{print_line, print_lines, push_plain};
 pub use protect_words::{Form, ProtectWord, protect_word};

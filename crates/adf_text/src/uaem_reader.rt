@@ -6,7 +6,7 @@ ghost use Rattle.adf_text.specs.UaemReads.{IsLineEnd, BeginsWithBits, comment_of
 ghost use Rattle.adf_text.specs.steps.Parts.{StopsLine, IsOnlyLine, BreaksLine, HasNoBits, IsLong, IsTooLong};
 
 use crate::escapes::is_control;
-use crate::front_date::front_date;
+use crate::leading_date::leading_date;
 use crate::letters::{LettersFault, letter_bytes};
 use crate::protection::{protection_letters, spelled_bits};
 use crate::uaem::Uaem;
@@ -80,10 +80,10 @@ pub fn read_uaem(alloc: Global, file: &[u8]) -> Result<Uaem, UaemFault>
     };
     let letters = letter_bytes(alloc, text)?;
     let line = one_line(&letters)?;
-    let Some((protect, dated)) = front_protection(line) else {
+    let Some((protect, dated)) = leading_protection(line) else {
         return Err(UaemFault::NoProtection);
     };
-    let Some((date, behind)) = front_date(alloc, dated)? else {
+    let Some((date, behind)) = leading_date(alloc, dated)? else {
         return Err(UaemFault::NoDate);
     };
     let comment = comment_behind(alloc, behind)?;
@@ -131,7 +131,7 @@ fn is_line_end(text: &[u8]) -> bool
 }
 
 // The bits at the start of the line, and the rest after the space.
-fn front_protection(line: &[u8]) -> Option<(Protect, &[u8])>
+fn leading_protection(line: &[u8]) -> Option<(Protect, &[u8])>
     ensures none { IfNone result (HasNoBits line.now) }
     ensures bits { IfSome result (λ found. BeginsWithBits line.now found.0.0 found.1.now) }
     ensures eight { IfSome result (λ found. found.0.0 < 256) }

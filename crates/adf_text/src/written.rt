@@ -4,7 +4,7 @@ ghost use Rattle.ados_name.specs.Date.{IsTextOf};
 ghost use Rattle.adf_text.specs.Dated.{IsTextOfNone};
 ghost use Rattle.adf_text.specs.Written.{HasNoWritten, IsWritten};
 
-use crate::front_date::date_of_text;
+use crate::leading_date::date_of_text;
 use ados_name::Date3;
 use std::alloc::{AllocError, Global};
 

@@ -1,5 +1,4 @@
 -- Lemmas about owned blocks, their paths, the faults and the places of a block, a loop over a `zip`, and texts in parts.
-pub mod BadLines
 pub mod Common
 pub mod Belonging
 pub mod FaultsThere

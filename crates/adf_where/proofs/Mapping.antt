@@ -39,12 +39,12 @@ line_more f before now new i is grown =
     grown ∙ ap (λ (l : List ℕ). l ++ f i) is ∙ append_assoc before done (f i) ∙ ap (λ (l : List ℕ). before ++ l) (sym more)
 
 -- the letter of one more block
-pub letter_more : (image : List ℕ) (more : Bool) (n : ℕ) (before after : List ℕ) (shown : ℕ) → AllZip (HasLetter image more) (range_with_len 0 n) before → HasLetter image more n shown → after ≡ before ++ shown ∷ []
-    → AllZip (HasLetter image more) (range_with_len 0 (n + 1)) after
-letter_more image more n before after shown done here is =
-    subst (λ (l : List ℕ). AllZip (HasLetter image more) (range_with_len 0 (n + 1)) l) (sym is)
-    (subst (λ (blocks : List ℕ). AllZip (HasLetter image more) blocks (before ++ shown ∷ [])) (sym (range_more 0 n n (omega arith)))
-    (all_zipped_more (HasLetter image more) (range_with_len 0 n) before n shown done here))
+pub letter_more : (image : List ℕ) (unread : List Bool) (more : Bool) (n : ℕ) (before after : List ℕ) (shown : ℕ) → AllZip (HasLetter image unread more) (range_with_len 0 n) before → HasLetter image unread more n shown → after ≡ before ++ shown ∷ []
+    → AllZip (HasLetter image unread more) (range_with_len 0 (n + 1)) after
+letter_more image unread more n before after shown done here is =
+    subst (λ (l : List ℕ). AllZip (HasLetter image unread more) (range_with_len 0 (n + 1)) l) (sym is)
+    (subst (λ (blocks : List ℕ). AllZip (HasLetter image unread more) blocks (before ++ shown ∷ [])) (sym (range_more 0 n n (omega arith)))
+    (all_zipped_more (HasLetter image unread more) (range_with_len 0 n) before n shown done here))
 
 -- ---- what a block is by all places that name it
 

@@ -7,7 +7,7 @@ use Rattle.adf_io.specs.Prefix.{IsPrefixOf}
 use Rattle.json.specs.Token.{Token, begin_object, end_array}
 use Rattle.json.specs.Print.{ends, print, print_from}
 use Rattle.json.proofs.Printed.Tokens.{print_from-append}
-use Rattle.adf_where.specs.steps.Parts.{closing, comma, element, opening, part}
+use Rattle.adf_where.specs.steps.Parts.{closing, comma, opening, part}
 
 -- whether a value just ended behind these tokens
 abbrev pub after_value : Bool → List Token → Bool

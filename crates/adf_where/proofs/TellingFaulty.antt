@@ -2,7 +2,7 @@
 use Rattle.adf_where.proofs.Common.{◌≡◌, ℕ, ◌+◌, ◌<◌, ◌≤◌, ◌==◌, Bool, true, false, List, [], ◌∷◌, ◌++◌, codes, length, get_or, get_or_default, take, Option, refl, sym, ap, ap₂, ◌∙◌, subst, append_assoc, array_of, take_all, AllZip, AreNamed, FaultyBlock, IsFaultyBlock, Place, place_object}
 use Rattle.adf_io.specs.Prefix.{IsPrefixOf, Passes}
 use Rattle.adf_block.specs.Image.{block_count}
-use Rattle.adf_words.specs.declared.block_word.BlockWord.{BlockWord}
+use Rattle.adf_cli.specs.declared.block_word.BlockWord.{BlockWord}
 use Rattle.json.specs.Token.{end_object}
 use Rattle.json.specs.Print.{print, print_from}
 use Rattle.json.proofs.Printed.Tokens.{print_from-append}
@@ -106,10 +106,10 @@ front_whole true kind at blocks told =
     ∙ ap (λ (l : List ℕ). print front ++ l) (append_assoc (print array) (codes "}") (codes "\n")))
 
 -- the text tells of the blocks that the arguments name
-pub faulty_text : (json : Bool) (image kind : List ℕ) (at : ℕ) (words : List BlockWord) (count : ℕ) (blocks : List ℕ) (more : Bool) (told now : List FaultyBlock) (front : List ℕ) → count ≡ block_count image
-    → AreNamed count words blocks → AllZip (IsFaultyBlock image more) blocks told → now ≡ told → front ≡ refused_front json kind at
-    → IsFaultyWhere json image kind at words (front ++ blocks_text json count now)
-faulty_text json image kind at words count blocks more told now front of_count named are same is = record {
+pub faulty_text : (json : Bool) (unread : List Bool) (image kind : List ℕ) (at : ℕ) (words : List BlockWord) (count : ℕ) (blocks : List ℕ) (more : Bool) (told now : List FaultyBlock) (front : List ℕ) → count ≡ block_count image
+    → AreNamed count words blocks → AllZip (IsFaultyBlock image unread more) blocks told → now ≡ told → front ≡ refused_front json kind at
+    → IsFaultyWhere json unread image kind at words (front ++ blocks_text json count now)
+faulty_text json unread image kind at words count blocks more told now front of_count named are same is = record {
   blocks = blocks;
   named = subst (λ (n : ℕ). AreNamed n words blocks) of_count named;
   more = more;

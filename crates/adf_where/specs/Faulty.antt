@@ -16,10 +16,11 @@ use Rattle.ados_census.specs.declared.place.PlaceKind.TheVariants.{Entry, NextEn
 use Rattle.ados_census.specs.declared.place.Place.{Place}
 use Rattle.ados_census.specs.Places.{AreAllPlaces}
 use Rattle.adf_archive.specs.Words.{kind_word}
-use Rattle.adf_words.specs.declared.block_word.BlockWord.{BlockWord}
+use Rattle.adf_cli.specs.declared.block_word.BlockWord.{BlockWord}
 use Rattle.adf_where.specs.declared.faulty.FaultyBlock.{FaultyBlock}
 use Rattle.adf_where.specs.Refused.{fault_reason, refused_line}
-use Rattle.adf_where.specs.Where.{AreNamed, array_of, place_text, place_tokens}
+use Rattle.adf_where.specs.Unread.{unread_of}
+use Rattle.adf_where.specs.Where.{AreNamed, array_of, place_text, place_tokens, unread_line, unread_tokens}
 
 -- these are faults that an image shows, in order, and all of them unless there may be more
 pub record AreFound (image : List ℕ) (found : AllFaults) : Type 0 where
@@ -38,13 +39,14 @@ pub record AreFaultsAt (image : List ℕ) (block : ℕ) (more : Bool) (faults : 
   pub shown : All (IsFaultAt image block) faults
   pub all : more ≡ false → (kind : FaultKind) → Shows image kind block → Contains faults (fault_of kind block)
 
--- a block of the image with all places that name it, and with its faults
-pub record IsFaultyBlock (image : List ℕ) (more : Bool) (block : ℕ) (told : FaultyBlock) : Type 0 where
+-- a block of the image with all places that name it, with its faults, and with whether it could not be read
+pub record IsFaultyBlock (image : List ℕ) (unread : List Bool) (more : Bool) (block : ℕ) (told : FaultyBlock) : Type 0 where
   pub block_is : told.block ≡ block
   pub more_is : told.more ≡ more
   pub root : told.is_root ≡ (block == root_of image)
   pub places : AreAllPlaces image block told.places.now
   pub faults : AreFaultsAt image block more told.faults.now
+  pub unread_is : told.unread ≡ unread_of unread block
 
 -- `of block N`
 abbrev pub of_block : ℕ → List ℕ
@@ -86,9 +88,13 @@ fault_line fault = decimal fault.block ++ (codes "  fault " ++ (kind_word fault.
 abbrev pub more_line : Bool → ℕ → List ℕ
 more_line more block = if more then decimal block ++ codes "  more\n" else []
 
+-- the lines behind those of the places
+abbrev pub behind_lines : FaultyBlock → List ℕ
+behind_lines told = flat_map fault_line told.faults.now ++ (more_line told.more told.block ++ unread_line told.unread told.block)
+
 -- the lines of a block
 abbrev pub block_lines : ℕ → FaultyBlock → List ℕ
-block_lines blocks told = first_line blocks told ++ (place_lines blocks told ++ (flat_map fault_line told.faults.now ++ more_line told.more told.block))
+block_lines blocks told = first_line blocks told ++ (place_lines blocks told ++ behind_lines told)
 
 -- what a place makes of the block that it names, as one word
 abbrev pub place_word : PlaceKind → List ℕ
@@ -118,7 +124,7 @@ faults_tokens faults = key (codes "faults") ∷ array_of fault_word faults
 -- the object of a block
 abbrev pub faulty_tokens : ℕ → FaultyBlock → List Token
 faulty_tokens blocks told =
-    begin_object ∷ place_tokens blocks told.block ++ (places_tokens told.places.now ++ (faults_tokens told.faults.now ++ key (codes "more") ∷ boolean told.more ∷ end_object ∷ []))
+    begin_object ∷ place_tokens blocks told.block ++ (places_tokens told.places.now ++ (faults_tokens told.faults.now ++ key (codes "more") ∷ boolean told.more ∷ (unread_tokens told.unread ++ end_object ∷ [])))
 
 -- the object of a refused image: why it is refused, and what is told of blocks
 abbrev pub faulty_object : List ℕ → ℕ → ℕ → List FaultyBlock → List Token
@@ -131,11 +137,12 @@ abbrev pub faulty_of : Bool → List ℕ → ℕ → ℕ → List FaultyBlock �
 faulty_of json kind at blocks told =
     if json then print (faulty_object kind at blocks told) ++ codes "\n" else refused_line kind at ++ flat_map (block_lines blocks) told
 
--- the text tells of the blocks that these arguments name in the image, which is refused with this word for the fault of a block
-pub record IsFaultyWhere (json : Bool) (image kind : List ℕ) (at : ℕ) (words : List BlockWord) (text : List ℕ) : Type 0 where
+-- the text tells of the blocks that these arguments name in the image, which is refused with this word for the fault of a block; some
+-- could not be read
+pub record IsFaultyWhere (json : Bool) (unread : List Bool) (image kind : List ℕ) (at : ℕ) (words : List BlockWord) (text : List ℕ) : Type 0 where
   pub blocks : List ℕ
   pub named : AreNamed (block_count image) words blocks
   pub more : Bool
   pub told : List FaultyBlock
-  pub are_told : AllZip (IsFaultyBlock image more) blocks told
+  pub are_told : AllZip (IsFaultyBlock image unread more) blocks told
   pub text_is : text ≡ faulty_of json kind at (block_count image) told

@@ -16,9 +16,9 @@ use Rattle.ados_model.specs.Faults.{HasFileType, InImage, Shows, root_of}
 use Rattle.adf_text.specs.Letters.{letters}
 use Rattle.adf_where.specs.declared.block_mark.BlockMark.{BlockMark}
 use Rattle.adf_where.specs.declared.block_mark.BlockMark.TheVariants.{Boot, Root, Bitmap, Directory, File, Extension, Data, Lost, Free, Faulty, Twice}
-use Rattle.adf_words.specs.declared.map_form.MapForm.{MapForm}
-use Rattle.adf_words.specs.declared.map_form.MapForm.TheVariants.{Json}
-use Rattle.adf_where.specs.BlockMap.{letter, map_page}
+use Rattle.adf_cli.specs.declared.map_form.MapForm.{MapForm}
+use Rattle.adf_cli.specs.declared.map_form.MapForm.TheVariants.{Json}
+use Rattle.adf_where.specs.BlockMap.{map_page, shown_letter}
 use Rattle.adf_where.specs.Refused.{fault_reason, refused_line}
 
 -- two places are one long
@@ -78,11 +78,11 @@ HasMark image more block Twice = IsNamedTwice image block
 HasMark image more block Faulty = (¬ IsNamedTwice image block) × ShowsAt image block
 HasMark image more block mark = (¬ IsNamedTwice image block) × (more ≡ false → ¬ ShowsAt image block) × IsPlain image block mark
 
--- the letter of a block
-pub record HasLetter (image : List ℕ) (more : Bool) (block shown : ℕ) : Type 0 where
+-- the letter of a block; some could not be read
+pub record HasLetter (image : List ℕ) (unread : List Bool) (more : Bool) (block shown : ℕ) : Type 0 where
   pub mark : BlockMark
   pub is : HasMark image more block mark
-  pub letter_is : shown ≡ letter mark
+  pub letter_is : shown ≡ shown_letter unread block mark
 
 -- a line that says that there may be more faults, if that is so
 abbrev pub more_text : Bool → List ℕ
@@ -94,15 +94,15 @@ faulty_map_tokens kind at more marks =
     begin_object ∷ key (codes "refused") ∷ fault_reason kind at ++ (key (codes "map") ∷ string marks ∷ key (codes "more") ∷ boolean more ∷ end_object ∷ [])
 
 -- the map of a disk that is refused with this word for the fault of a block, in one of its forms
-abbrev pub faulty_map_of : MapForm → List ℕ → ℕ → Bool → List ℕ → List ℕ
-faulty_map_of Json kind at more marks = print (faulty_map_tokens kind at more (letters marks)) ++ codes "\n"
-faulty_map_of form kind at more marks = refused_line kind at ++ (map_page form true marks ++ more_text more)
+abbrev pub faulty_map_of : MapForm → List Bool → List ℕ → ℕ → Bool → List ℕ → List ℕ
+faulty_map_of Json unread kind at more marks = print (faulty_map_tokens kind at more (letters marks)) ++ codes "\n"
+faulty_map_of form unread kind at more marks = refused_line kind at ++ (map_page form true unread marks ++ more_text more)
 
--- the text is the map of the image, which is refused with this word for the fault of a block: a letter for each block. There may be more
--- faults than were found only if blocks are reached in very many roles
-pub record IsFaultyMap (form : MapForm) (image kind : List ℕ) (at : ℕ) (text : List ℕ) : Type 0 where
+-- the text is the map of the image, which is refused with this word for the fault of a block: a letter for each block, of which some could
+-- not be read. There may be more faults than were found only if blocks are reached in very many roles
+pub record IsFaultyMap (form : MapForm) (unread : List Bool) (image kind : List ℕ) (at : ℕ) (text : List ℕ) : Type 0 where
   pub more : Bool
   pub tangled : more ≡ true → IsTangled image
   pub marks : List ℕ
-  pub are_marks : AllZip (HasLetter image more) (range_with_len 0 (block_count image)) marks
-  pub text_is : text ≡ faulty_map_of form kind at more marks
+  pub are_marks : AllZip (HasLetter image unread more) (range_with_len 0 (block_count image)) marks
+  pub text_is : text ≡ faulty_map_of form unread kind at more marks

@@ -1,5 +1,5 @@
 -- Who owns a block: of an image that is accepted, and of one that is not. Definitions for steps are in `steps`.
-pub mod BadBlocks
+pub mod Unread
 pub mod Where
 pub mod Faulty
 pub mod Own

@@ -1,8 +1,8 @@
 -- Who owns a block, and the blocks of an entry.
-use Rattle.std.specs.Prelude.{◌≡◌, ⊤, ℕ, ◌+◌, ◌*◌, ◌-◌, ◌/◌, ◌%◌, ◌==◌, ◌&&◌, ◌⊎◌, nat_lt, min, Bool, false, if◌then◌else◌, List, [], ◌∷◌, ◌++◌, flat_map, length, map, take, slice_get, codes, decimal, Option, Some, None, option_map}
+use Rattle.std.specs.Prelude.{◌≡◌, ⊤, ℕ, ◌+◌, ◌*◌, ◌-◌, ◌/◌, ◌%◌, ◌⊎◌, nat_lt, min, Bool, true, false, if◌then◌else◌, List, [], ◌∷◌, ◌++◌, flat_map, length, map, take, slice_get, codes, decimal, Option, Some, None, option_map}
 use Rattle.std.specs.Option.{option_map_or}
 use Rattle.std.specs.String.{string_bytes}
-use Rattle.json.specs.Token.{Token, begin_array, begin_object, end_array, end_object, key, number, string}
+use Rattle.json.specs.Token.{Token, begin_array, begin_object, boolean, end_array, end_object, key, number, string}
 use Rattle.json.specs.Print.{print}
 use Rattle.ados_model.specs.Tree.{Tree, data_size, size_of}
 use Rattle.ados_volume.specs.declared.owner.Owner.{Owner}
@@ -10,9 +10,9 @@ use Rattle.ados_volume.specs.declared.owner.Owner.TheVariants.{Boot, Root, Page,
 use Rattle.ados_volume.specs.Owners.{AreOwners}
 use Rattle.adf_text.specs.Letters.{letters}
 use Rattle.adf_text.specs.Plain.{plain}
-use Rattle.adf_words.specs.declared.block_word.BlockWord.{BlockWord}
-use Rattle.adf_words.specs.declared.block_word.BlockWord.TheVariants.{Number, Sector}
-use Rattle.adf_words.specs.declared.floppy.TheConstants.{DOUBLE_TRACK, HEADS, HIGH_DENSITY, HIGH_TRACK}
+use Rattle.adf_cli.specs.declared.block_word.BlockWord.{BlockWord}
+use Rattle.adf_cli.specs.Blocks.{named, track}
+use Rattle.adf_cli.specs.declared.floppy.TheConstants.{HEADS}
 use Rattle.adf_record.specs.Members.{number_token, string_token}
 use Rattle.adf_where.specs.declared.owned.OwnedBlock.{OwnedBlock}
 use Rattle.adf_where.specs.declared.short_path.TheConstants.{LONGEST_PATH}
@@ -22,21 +22,7 @@ use Rattle.adf_where.specs.declared.where_fault.WhereFault.TheVariants.{NoBlock}
 use Rattle.adf_io.specs.Prefix.{WritesFrontOf}
 use Rattle.std.specs.Io.KnownBytes.{Keeps}
 use Rattle.adf_export.specs.Listing.{path_of}
-
--- the sectors in a track of a disk with so many blocks
-abbrev pub track : ℕ → ℕ
-track blocks = if blocks == HIGH_DENSITY then HIGH_TRACK else DOUBLE_TRACK
-
--- the number of a block, if a volume with so many blocks has it
-abbrev pub inside : ℕ → ℕ → Option ℕ
-inside blocks block = if nat_lt block blocks then Some block else None
-
--- the block that an argument names in a volume with so many blocks: tracks follow one another, that of head 0 before that
--- of head 1, and cylinder after cylinder
-abbrev pub named : ℕ → BlockWord → Option ℕ
-named blocks (Number block) = inside blocks block
-named blocks (Sector cylinder head sector) =
-    if nat_lt head HEADS && nat_lt sector (track blocks) then inside blocks (track blocks * (HEADS * cylinder + head) + sector) else None
+use Rattle.adf_where.specs.Unread.{unread_of}
 
 -- these arguments name these blocks
 abbrev pub AreNamed : ℕ → List BlockWord → List ℕ → Type 0
@@ -77,22 +63,30 @@ pub record Told : Type 0 where
   pub owner : Owner
   pub path : Option (List ℕ)
   pub span : Option Span
+  pub unread : Option Bool
 
--- what is told of a block with this owner
-abbrev pub told_of : Tree → ℕ → Owner → Told
-told_of t block owner = record { block = block; owner = owner; path = entry_path t (entry_of block owner); span = span_of t owner }
+-- what is told of a block with this owner; some blocks could not be read
+abbrev pub told_of : Tree → List Bool → ℕ → Owner → Told
+told_of t unread block owner = record {
+  block = block;
+  owner = owner;
+  path = entry_path t (entry_of block owner);
+  span = span_of t owner;
+  unread = unread_of unread block;
+}
 
 -- what is told of a block, by the owners of all blocks
-abbrev pub told_at : Tree → List Owner → ℕ → Option Told
-told_at t owners block = option_map (told_of t block) (slice_get owners block)
+abbrev pub told_at : Tree → List Bool → List Owner → ℕ → Option Told
+told_at t unread owners block = option_map (told_of t unread block) (slice_get owners block)
 
 -- this is told of these blocks
-abbrev pub AreTold : Tree → List Owner → List ℕ → List Told → Type 0
-AreTold t owners blocks told = map (told_at t owners) blocks ≡ map Some told
+abbrev pub AreTold : Tree → List Bool → List Owner → List ℕ → List Told → Type 0
+AreTold t unread owners blocks told = map (told_at t unread owners) blocks ≡ map Some told
 
 -- a block with its owner in memory, as what is told of it
 abbrev pub seen : OwnedBlock → Told
-seen owned = record { block = owned.block; owner = owned.owner; path = option_map string_bytes owned.path; span = owned.span }
+seen owned =
+    record { block = owned.block; owner = owned.owner; path = option_map string_bytes owned.path; span = owned.span; unread = owned.unread }
 
 -- the place of a block on a disk with so many blocks: its cylinder, its head and its sector, each from 0
 abbrev pub cylinder_of : ℕ → ℕ → ℕ
@@ -144,10 +138,16 @@ bytes_text span = codes ", bytes " ++ (decimal span.first ++ (codes " to " ++ de
 abbrev pub span_text : Option Span → List ℕ
 span_text span = option_map_or bytes_text span []
 
--- the line of a block
+-- `BLOCK  unread`, if the block could not be read
+abbrev pub unread_line : Option Bool → ℕ → List ℕ
+unread_line (Some true) block = decimal block ++ codes "  unread\n"
+unread_line unread block = []
+
+-- the line of a block, and that of one that could not be read
 abbrev pub where_line : ℕ → Told → List ℕ
 where_line blocks told =
     place_text blocks told.block ++ owner_text told.owner ++ path_text told.block told.owner told.path ++ span_text told.span ++ codes "\n"
+    ++ unread_line told.unread told.block
 
 -- what the block is, as one word
 abbrev pub owner_word : Owner → List ℕ
@@ -182,9 +182,14 @@ owner_tokens told =
     ∷ key (codes "first") ∷ number_token (option_map (λ span. span.first) told.span)
     ∷ key (codes "last") ∷ number_token (option_map (λ span. span.last) told.span) ∷ []
 
+-- whether it could not be read, if that is asked
+abbrev pub unread_tokens : Option Bool → List Token
+unread_tokens (Some unread) = key (codes "unread") ∷ boolean unread ∷ []
+unread_tokens None = []
+
 -- the object of a block
 abbrev pub told_tokens : ℕ → Told → List Token
-told_tokens blocks told = begin_object ∷ place_tokens blocks told.block ++ owner_tokens told ++ end_object ∷ []
+told_tokens blocks told = begin_object ∷ place_tokens blocks told.block ++ owner_tokens told ++ unread_tokens told.unread ++ end_object ∷ []
 
 -- an array of these elements
 abbrev pub array_of : {A : Type 0} → (A → List Token) → List A → List Token
@@ -197,14 +202,14 @@ told_as json tokens lines told = if json then print (array_of tokens told) ++ co
 abbrev pub where_of : Bool → ℕ → List Told → List ℕ
 where_of json blocks told = told_as json (told_tokens blocks) (where_line blocks) told
 
--- the text tells of the blocks that these arguments name in the volume with this image and this tree
-pub record IsWhere (json : Bool) (image : List ℕ) (t : Tree) (words : List BlockWord) (text : List ℕ) : Type 0 where
+-- the text tells of the blocks that these arguments name in the volume with this image and this tree; some could not be read
+pub record IsWhere (json : Bool) (unread : List Bool) (image : List ℕ) (t : Tree) (words : List BlockWord) (text : List ℕ) : Type 0 where
   pub blocks : List ℕ
   pub named : AreNamed t.blocks words blocks
   pub owners : List Owner
   pub owned : AreOwners image t owners
   pub told : List Told
-  pub are_told : AreTold t owners blocks told
+  pub are_told : AreTold t unread owners blocks told
   pub text_is : text ≡ where_of json t.blocks told
 
 -- nothing is written if an argument names no block; otherwise nothing, or a prefix of such a text

@@ -2,22 +2,29 @@
 ghost use Rattle.std.specs.Prelude.{◌≡◌, IfOk};
 ghost use Rattle.ados_model.specs.Stands.{Stands};
 ghost use Rattle.ados_model.specs.Tree.{Tree};
-ghost use Rattle.adf_where.specs.BlockMap.{IsMap, letter, map_of, mark_of, owner_letters};
+ghost use Rattle.adf_where.specs.BlockMap.{IsMap, map_of, owner_letters};
 
 use crate::block_mark::BlockMark;
 use crate::map_lines::map_page;
 use crate::map_object::map_object;
-use adf_words::MapForm;
+use crate::unread::shown_letter;
+use adf_cli::MapForm;
 use ados_volume::{Owner, Volume, owners};
 use std::alloc::{AllocError, Global};
 
-/// The map of a volume: the letters of its blocks in lines, and what they mean; or a JSON object on a line of its own.
-pub fn map_text(alloc: Global, volume: &Volume, form: MapForm) -> Result<Vec<u8>, AllocError>
-    ensures { IfOk result (λ text. (t : Tree) → Stands volume.now.image t → IsMap form volume.now.image t text.items) }
+/// The map of a volume: the letters of its blocks in lines, and what they mean; or a JSON object on a line of its own. `unread` says of
+/// each block whether it could not be read, or is empty; such a block has a letter of its own.
+pub fn map_text(
+    alloc: Global,
+    volume: &Volume,
+    form: MapForm,
+    unread: &[bool],
+) -> Result<Vec<u8>, AllocError>
+    ensures { IfOk result (λ text. (t : Tree) → Stands volume.now.image t → IsMap form unread.now volume.now.image t text.items) }
 {
     let owners = owners(alloc, volume)?;
-    let letters = letters_of(alloc, &owners)?;
-    form_text(alloc, &owners, &letters, form)
+    let letters = letters_of(alloc, &owners, unread)?;
+    form_text(alloc, &owners, &letters, form, unread)
 }
 
 /// The map of blocks with these owners and these letters.
@@ -26,25 +33,23 @@ fn form_text(
     owners: &[Owner],
     letters: &[u8],
     form: MapForm,
+    unread: &[bool],
 ) -> Result<Vec<u8>, AllocError>
-    ensures { IfOk result (λ text. text.items ≡ map_of form letters.now owners.now) }
+    ensures { IfOk result (λ text. text.items ≡ map_of form unread.now letters.now owners.now) }
 {
     match form {
         MapForm::Json => map_object(alloc, owners, letters),
-        _ => map_page(alloc, letters, form, false),
+        _ => map_page(alloc, letters, form, false, unread),
     }
 }
 
-/// The letters of blocks with these owners.
-fn letters_of(alloc: Global, owners: &[Owner]) -> Result<Vec<u8>, AllocError>
-    ensures { IfOk result (λ letters. letters.items ≡ owner_letters owners.now) }
+/// The letters of blocks with these owners, of which some could not be read.
+fn letters_of(alloc: Global, owners: &[Owner], unread: &[bool]) -> Result<Vec<u8>, AllocError>
+    ensures { IfOk result (λ letters. letters.items ≡ owner_letters unread.now owners.now) }
 {
-    owners.iter().map(|owner| letter_of(*owner)).collect(alloc)
-}
-
-/// The letter of a block with this owner.
-fn letter_of(owner: Owner) -> u8
-    ensures { result ≡ letter (mark_of owner) }
-{
-    BlockMark::of_owner(owner).letter()
+    let mut letters = Vec::new(alloc);
+    for (block, owner) in owners.iter().enumerate() {
+        letters.push(shown_letter(unread, block, BlockMark::of_owner(*owner)))?;
+    }
+    Ok(letters)
 }

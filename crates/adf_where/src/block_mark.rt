@@ -1,6 +1,6 @@
 //! What a block is in a map.
 ghost use Rattle.std.specs.Prelude.{◌≡◌};
-ghost use Rattle.adf_where.specs.BlockMap.{kinds, letter, mark_of, meaning};
+ghost use Rattle.adf_where.specs.BlockMap.{kinds, letter, listed_kinds, mark_of, meaning};
 
 use ados_volume::Owner;
 
@@ -20,6 +20,8 @@ pub(crate) enum BlockMark {
     Faulty,
     /// In a refused image: two places name the block.
     Twice,
+    /// With a list of blocks that could not be read: the list has the block.
+    Unread,
 }
 
 /// What blocks are in the map of an accepted image, in the order in which their letters are explained.
@@ -50,12 +52,26 @@ const KINDS: [BlockMark; 11] = [
     BlockMark::Twice,
 ];
 
+/// What more they are if there is a list of blocks that could not be read.
+const LISTED_KINDS: [BlockMark; 1] = [BlockMark::Unread];
+
 impl BlockMark {
     /// What blocks are in the map of an accepted or a refused image.
     pub(crate) fn kinds(refused: bool) -> &'static [BlockMark]
         ensures { result.now ≡ kinds refused }
     {
         if refused { &KINDS } else { &SOUND_KINDS }
+    }
+
+    /// What blocks are in the map too, if there are marks of blocks that could not be read.
+    pub(crate) fn listed_kinds(unread: &[bool]) -> &'static [BlockMark]
+        ensures { result.now ≡ listed_kinds unread.now }
+    {
+        if unread.is_empty() {
+            &[]
+        } else {
+            &LISTED_KINDS
+        }
     }
 
     /// What a block with this owner is.
@@ -91,6 +107,7 @@ impl BlockMark {
             BlockMark::Free => b'.',
             BlockMark::Faulty => b'!',
             BlockMark::Twice => b'?',
+            BlockMark::Unread => b'U',
         }
     }
 
@@ -110,6 +127,7 @@ impl BlockMark {
             BlockMark::Free => ". free",
             BlockMark::Faulty => "! faulty",
             BlockMark::Twice => "? shared",
+            BlockMark::Unread => "U unread",
         }
     }
 }

@@ -9,6 +9,7 @@ ghost use Rattle.adf_where.specs.Faulty.{AreFound, IsFaultyBlock};
 ghost use Rattle.adf_where.specs.FaultyMap.{ShowsAt};
 ghost use Rattle.adf_where.specs.steps.Asked.{AreAllPlacesOfEach, AreAsked};
 
+use crate::unread::unread_of;
 use adf_block::Image;
 use ados_census::{Place, places_of, reached_blocks, take_census};
 use ados_faults::AllFaults;
@@ -24,6 +25,8 @@ pub(crate) struct FaultyBlock<'a> {
     pub(crate) faults: &'a [VolumeFault],
     /// Whether it may have more faults.
     pub(crate) more: bool,
+    /// Whether it could not be read, if that is asked.
+    pub(crate) unread: Option<bool>,
 }
 
 /// The blocks that are asked for, in order, each once, and for each of them the places that name it.
@@ -98,15 +101,16 @@ pub(crate) fn faulty_blocks<'a>(
     image: &Image,
     asked: &'a AskedBlocks,
     found: &'a AllFaults,
+    unread: &[bool],
     blocks: &[u32],
 ) -> Result<Vec<FaultyBlock<'a>>, AllocError>
     requires asked { AreAsked image.now blocks.now asked.now }
     requires found { AreFound image.now found.now }
-    ensures { IfOk result (λ told. AllZip (IsFaultyBlock image.now found.now.more) blocks.now told.items) }
+    ensures { IfOk result (λ told. AllZip (IsFaultyBlock image.now unread.now found.now.more) blocks.now told.items) }
 {
     let mut told = Vec::new(alloc);
     for block in blocks {
-        told.push(faulty_block(image, asked, found, *block))?;
+        told.push(faulty_block(image, asked, found, unread, *block))?;
     }
     Ok(told)
 }
@@ -116,10 +120,11 @@ fn faulty_block<'a>(
     image: &Image,
     asked: &'a AskedBlocks,
     found: &'a AllFaults,
+    unread: &[bool],
     block: u32,
 ) -> FaultyBlock<'a>
     requires { AreFound image.now found.now }
-    ensures { (blocks : List ℕ) → AreAsked image.now blocks asked.now → Contains blocks block → IsFaultyBlock image.now found.now.more block result }
+    ensures { (blocks : List ℕ) → AreAsked image.now blocks asked.now → Contains blocks block → IsFaultyBlock image.now unread.now found.now.more block result }
 {
     FaultyBlock {
         block,
@@ -127,6 +132,7 @@ fn faulty_block<'a>(
         places: asked.places(block),
         faults: faults_at(&found.faults, block),
         more: found.more,
+        unread: unread_of(unread, block as usize),
     }
 }
 

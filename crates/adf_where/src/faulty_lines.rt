@@ -1,10 +1,10 @@
 //! The lines of blocks of a refused image.
 ghost use Rattle.std.specs.Prelude.{◌≡◌, ◌++◌, IfOk, OnOk, flat_map, option_map};
 ghost use Rattle.std.specs.String.{string_bytes};
-ghost use Rattle.adf_where.specs.Faulty.{block_line, fault_line, first_line, first_words, more_line, place_lines, place_words};
+ghost use Rattle.adf_where.specs.Faulty.{behind_lines, block_line, fault_line, first_line, first_words, more_line, place_words};
 
 use crate::faulty::FaultyBlock;
-use crate::where_lines::place_text;
+use crate::where_lines::{place_text, push_unread};
 use adf_archive::kind_word;
 use adf_block::layout::{BOOT_BLOCKS, FIRST_PAGE, FIRST_POINTER};
 use ados_census::{Place, PlaceKind};
@@ -93,17 +93,18 @@ fn place_words(alloc: Global, place: Place) -> Result<String, AllocError>
     }
 }
 
-/// Appends the lines behind those of the places: one for each fault, and one that says that there may be more faults, if
-/// that is so.
+/// Appends the lines behind those of the places: one for each fault, one that says that there may be more faults, if that is so, and one
+/// if the block could not be read.
 pub(crate) fn push_behind(
     alloc: Global,
     text: &mut Vec<u8>,
     told: &FaultyBlock<'_>,
 ) -> Result<(), AllocError>
-    ensures { OnOk result (text.new.items ≡ text.old.items ++ flat_map fault_line told.now.faults.now ++ more_line told.now.more told.now.block) }
+    ensures { OnOk result (text.new.items ≡ text.old.items ++ behind_lines told.now) }
 {
     push_faults(alloc, text, told.faults)?;
-    push_more(alloc, text, told.more, told.block)
+    push_more(alloc, text, told.more, told.block)?;
+    push_unread(alloc, text, told.unread, told.block)
 }
 
 /// Appends a line for each fault.

@@ -16,9 +16,10 @@ use crate::faulty::shows_fault;
 use crate::map_lines::map_page;
 use crate::map_object::faulty_map_object;
 use crate::refused::{FaultReason, refused_text};
+use crate::unread::shown_letter;
 use adf_block::Image;
 use adf_block::layout::{BOOT_BLOCKS, FILE_TYPE, SECONDARY_TYPE};
-use adf_words::MapForm;
+use adf_cli::MapForm;
 use ados_census::{Place, PlaceKind, places_of, reached_blocks, take_census};
 use ados_check::{Source, is_free};
 use ados_faults::{AllFaults, faults_of_any_disk};
@@ -28,31 +29,39 @@ use std::alloc::{AllocError, Global};
 /// on a line of its own. If the image may have more faults than were found, the last line is `more`.
 ///
 /// A block that nothing names is free or lost as its bit says, whatever the root says of the bitmap; without a bitmap block
-/// it is lost. Time and memory grow almost linearly with the size of the image.
+/// it is lost. `unread` says of each block whether it could not be read, or is empty; such a block has a letter of its own. Time and
+/// memory grow almost linearly with the size of the image.
 pub fn faulty_map_text(
     alloc: Global,
     image: &Image,
     reason: FaultReason,
     form: MapForm,
+    unread: &[bool],
 ) -> Result<Vec<u8>, AllocError>
-    ensures { IfOk result (λ text. IsFaultyMap form image.now reason.kind.now reason.block text.items) }
+    ensures { IfOk result (λ text. IsFaultyMap form unread.now image.now reason.kind.now reason.block text.items) }
 {
     let found = faults_of_any_disk(alloc, image)?;
-    let letters = letters_of(alloc, image, &found)?;
-    faulty_text(alloc, reason, form, found.more, &letters)
+    let letters = letters_of(alloc, image, &found, unread)?;
+    faulty_text(alloc, reason, form, found.more, &letters, unread)
 }
 
-/// The letters of the blocks of an image with these faults.
-fn letters_of(alloc: Global, image: &Image, found: &AllFaults) -> Result<Vec<u8>, AllocError>
+/// The letters of the blocks of an image with these faults, of which some could not be read.
+fn letters_of(
+    alloc: Global,
+    image: &Image,
+    found: &AllFaults,
+    unread: &[bool],
+) -> Result<Vec<u8>, AllocError>
     requires { AreFound image.now found.now }
-    ensures { IfOk result (λ letters. AllZip (HasLetter image.now found.now.more) (range_with_len 0 (block_count image.now)) letters.items) }
+    ensures { IfOk result (λ letters. AllZip (HasLetter image.now unread.now found.now.more) (range_with_len 0 (block_count image.now)) letters.items) }
 {
     let census = take_census(alloc, image)?;
     let reached = reached_blocks(alloc, image)?;
     let mut letters = Vec::new(alloc);
     for block in 0..image.blocks() {
         let places = places_of(alloc, &census, &reached, block)?;
-        letters.push(mark_of(image, found, block, &places).letter())?;
+        let mark = mark_of(image, found, block, &places);
+        letters.push(shown_letter(unread, block as usize, mark))?;
     }
     Ok(letters)
 }
@@ -150,12 +159,13 @@ fn faulty_text(
     form: MapForm,
     more: bool,
     letters: &[u8],
+    unread: &[bool],
 ) -> Result<Vec<u8>, AllocError>
-    ensures { IfOk result (λ text. text.items ≡ faulty_map_of form reason.kind.now reason.block more letters.now) }
+    ensures { IfOk result (λ text. text.items ≡ faulty_map_of form unread.now reason.kind.now reason.block more letters.now) }
 {
     match form {
         MapForm::Json => faulty_map_object(alloc, reason, more, letters),
-        _ => faulty_page(alloc, reason, form, more, letters),
+        _ => faulty_page(alloc, reason, form, more, letters, unread),
     }
 }
 
@@ -166,11 +176,12 @@ fn faulty_page(
     form: MapForm,
     more: bool,
     letters: &[u8],
+    unread: &[bool],
 ) -> Result<Vec<u8>, AllocError>
-    ensures { IfOk result (λ text. text.items ≡ refused_line reason.kind.now reason.block ++ (map_page form true letters.now ++ more_text more)) }
+    ensures { IfOk result (λ text. text.items ≡ refused_line reason.kind.now reason.block ++ (map_page form true unread.now letters.now ++ more_text more)) }
 {
     let mut text = refused_text(alloc, reason, false)?;
-    let page = map_page(alloc, letters, form, true)?;
+    let page = map_page(alloc, letters, form, true, unread)?;
     text.extend_from_slice(&page)?;
     if more {
         text.extend_from_slice(b"more\n")?;

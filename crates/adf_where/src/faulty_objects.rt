@@ -4,8 +4,9 @@ ghost use Rattle.json.specs.Print.{print};
 ghost use Rattle.adf_where.specs.Faulty.{place_word};
 ghost use Rattle.adf_where.specs.steps.Parts.{head_tokens, tail_tokens};
 
+use crate::faulty::FaultyBlock;
 use crate::forms::{Put, put_array};
-use crate::where_objects::put_place;
+use crate::where_objects::{put_place, put_unread};
 use adf_archive::kind_word;
 use adf_record::{put_flag, put_number, put_text};
 use ados_census::{Place, PlaceKind};
@@ -34,27 +35,24 @@ fn put_head(writer: &mut Writer, blocks: u32, block: u32) -> Result<(), AllocErr
 }
 
 /// The object of a block behind the last of its places.
-pub(crate) fn tail_text(
-    alloc: Global,
-    faults: &[VolumeFault],
-    more: bool,
-) -> Result<Vec<u8>, AllocError>
-    ensures { IfOk result (λ text. text.items ≡ print (tail_tokens faults.now more)) }
+pub(crate) fn tail_text(alloc: Global, told: &FaultyBlock<'_>) -> Result<Vec<u8>, AllocError>
+    ensures { IfOk result (λ text. text.items ≡ print (tail_tokens told.now)) }
 {
     let mut writer = Writer::new(Vec::new(alloc));
-    put_tail(&mut writer, faults, more)?;
+    put_tail(&mut writer, told)?;
     Ok(writer.into_inner())
 }
 
 /// Writes the object of a block behind the last of its places.
-fn put_tail(writer: &mut Writer, faults: &[VolumeFault], more: bool) -> Result<(), AllocError>
+fn put_tail(writer: &mut Writer, told: &FaultyBlock<'_>) -> Result<(), AllocError>
     ensures before { writer.new.before ≡ writer.old.before }
-    ensures tokens { OnOk result (writer.new.tokens ≡ writer.old.tokens ++ tail_tokens faults.now more) }
+    ensures tokens { OnOk result (writer.new.tokens ≡ writer.old.tokens ++ tail_tokens told.now) }
 {
     writer.end_array()?;
     writer.key("faults")?;
-    put_array(writer, 0, faults)?;
-    put_flag(writer, "more", more)?;
+    put_array(writer, 0, told.faults)?;
+    put_flag(writer, "more", told.more)?;
+    put_unread(writer, told.unread)?;
     writer.end_object()
 }
 

@@ -121,6 +121,6 @@ fn push_tail(
     if !json {
         return push_behind(alloc, text, told);
     }
-    let tail = tail_text(alloc, told.faults, told.more)?;
+    let tail = tail_text(alloc, told)?;
     text.extend_from_slice(&tail)
 }

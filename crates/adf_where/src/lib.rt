@@ -10,7 +10,7 @@ mod map_lines;
 mod map_object;
 
 // Blocks that are asked for.
-mod bad_list;
+mod asking;
 mod faulty;
 mod faulty_lines;
 mod faulty_objects;
@@ -23,12 +23,13 @@ mod owned;
 mod places;
 mod refused;
 mod short_path;
+mod unread;
 mod where_blocks;
 mod where_fault;
 mod where_lines;
 mod where_objects;
 
-pub use bad_list::{BadFault, bad_blocks};
+pub use asking::Asking;
 pub use block_map::map_text;
 pub use faulty_map::faulty_map_text;
 pub use faulty_where::write_faulty_where;

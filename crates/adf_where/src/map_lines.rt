@@ -1,30 +1,29 @@
 //! The letters of a map in lines, and what they mean.
 ghost use Rattle.std.specs.Prelude.{◌≡◌, ◌++◌, ◌+◌, ◌*◌, ◌==◌, ◌<◌, IfOk, IfSome, OnOk, count_by, flat_map, length};
 ghost use Rattle.std.specs.List.{range_with_len};
-ghost use Rattle.adf_words.specs.declared.floppy.TheConstants.{CYLINDERS};
+ghost use Rattle.adf_cli.specs.declared.floppy.TheConstants.{CYLINDERS};
 ghost use Rattle.adf_where.specs.BlockMap.{count_of, cylinder_blocks, cylinder_line, cylinder_page, legend_end, legend_part, letter, line_blocks, line_end, map_page, meaning_line, track_lines, track_page};
 
 use crate::block_mark::BlockMark;
+use adf_cli::{CYLINDERS, DOUBLE_DENSITY, DOUBLE_TRACK, HEADS, HIGH_DENSITY, HIGH_TRACK, MapForm};
 use adf_record::grouped_text;
-use adf_words::{
-    CYLINDERS, DOUBLE_DENSITY, DOUBLE_TRACK, HEADS, HIGH_DENSITY, HIGH_TRACK, MapForm,
-};
 use std::alloc::{AllocError, Global};
 
-/// The map as text, by the letters of the blocks of an accepted or a refused image.
+/// The map as text, by the letters of the blocks of an accepted or a refused image, of which some could not be read.
 pub(crate) fn map_page(
     alloc: Global,
     letters: &[u8],
     form: MapForm,
     refused: bool,
+    unread: &[bool],
 ) -> Result<Vec<u8>, AllocError>
-    ensures { IfOk result (λ text. text.items ≡ map_page form refused letters.now) }
+    ensures { IfOk result (λ text. text.items ≡ map_page form refused unread.now letters.now) }
 {
     match form {
-        MapForm::Tracks => track_page(alloc, letters, refused),
+        MapForm::Tracks => track_page(alloc, letters, refused, unread),
         _ => match cylinder_blocks(letters.len()) {
-            Some(size) => cylinder_page(alloc, letters, refused, size),
-            None => track_page(alloc, letters, refused),
+            Some(size) => cylinder_page(alloc, letters, refused, unread, size),
+            None => track_page(alloc, letters, refused, unread),
         },
     }
 }
@@ -44,13 +43,19 @@ fn cylinder_blocks(blocks: usize) -> Option<usize>
 }
 
 /// The letters in lines, and a line for each that says what it means.
-fn track_page(alloc: Global, letters: &[u8], refused: bool) -> Result<Vec<u8>, AllocError>
-    ensures { IfOk result (λ text. text.items ≡ track_page refused letters.now) }
+fn track_page(
+    alloc: Global,
+    letters: &[u8],
+    refused: bool,
+    unread: &[bool],
+) -> Result<Vec<u8>, AllocError>
+    ensures { IfOk result (λ text. text.items ≡ track_page refused unread.now letters.now) }
 {
     let mut text = Vec::new(alloc);
     push_track_lines(&mut text, letters)?;
     text.push(b'\n')?;
     push_meanings(alloc, &mut text, letters, BlockMark::kinds(refused))?;
+    push_meanings(alloc, &mut text, letters, BlockMark::listed_kinds(unread))?;
     Ok(text)
 }
 
@@ -124,25 +129,22 @@ fn count_of(letters: &[u8], letter: u8) -> usize
     letters.iter().filter(|mark| **mark == letter).count()
 }
 
-/// The letters in columns, one for each cylinder of so many blocks, and two lines that say what they mean.
+/// The letters in columns, one for each cylinder of so many blocks, and two or three lines that say what they mean.
 fn cylinder_page(
     alloc: Global,
     letters: &[u8],
     refused: bool,
+    unread: &[bool],
     size: usize,
 ) -> Result<Vec<u8>, AllocError>
     requires { size * CYLINDERS ≡ length letters.now }
-    ensures { IfOk result (λ text. text.items ≡ cylinder_page refused letters.now size) }
+    ensures { IfOk result (λ text. text.items ≡ cylinder_page refused unread.now letters.now size) }
 {
+    let (kinds, listed) = (BlockMark::kinds(refused), BlockMark::listed_kinds(unread));
     let mut text = Vec::new(alloc);
     push_cylinder_lines(&mut text, letters, size)?;
-    push_legend(
-        alloc,
-        &mut text,
-        letters,
-        refused,
-        BlockMark::kinds(refused),
-    )?;
+    push_legend(alloc, &mut text, letters, refused, kinds)?;
+    push_legend(alloc, &mut text, letters, refused, listed)?;
     Ok(text)
 }
 
@@ -227,7 +229,8 @@ fn legend_end(refused: bool, kind: BlockMark) -> &'static str
     ensures { result.now ≡ legend_end refused kind }
 {
     match (refused, kind) {
-        (_, BlockMark::File) | (false, BlockMark::Free) | (true, BlockMark::Twice) => "\n",
+        (_, BlockMark::File | BlockMark::Unread) => "\n",
+        (false, BlockMark::Free) | (true, BlockMark::Twice) => "\n",
         _ => "  ",
     }
 }

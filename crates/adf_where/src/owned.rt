@@ -8,6 +8,7 @@ ghost use Rattle.ados_volume.specs.Owners.{AreOwners, Owns};
 ghost use Rattle.adf_where.specs.Where.{entry_of, entry_path, seen, span_of, told_at};
 
 use crate::short_path::short_path;
+use crate::unread::unread_of;
 use adf_block::Format;
 use adf_block::layout::{FFS_ROOM, OFS_ROOM};
 use ados_volume::{Owner, Volume};
@@ -22,6 +23,8 @@ pub(crate) struct OwnedBlock {
     pub(crate) path: Option<String>,
     /// The bytes of the file that are in a data block.
     pub(crate) span: Option<Span>,
+    /// Whether it could not be read, if that is asked.
+    pub(crate) unread: Option<bool>,
 }
 
 /// Bytes of a file: the positions of the first and of the last.
@@ -36,11 +39,12 @@ pub(crate) fn owned_block(
     alloc: Global,
     volume: &Volume,
     owners: &[Owner],
+    unread: &[bool],
     block: u32,
 ) -> Result<OwnedBlock, AllocError>
     requires owners { (t : Tree) → Stands volume.now.image t → AreOwners volume.now.image t owners.now }
     requires inside { block < block_count volume.now.image }
-    ensures { IfOk result (λ told. (t : Tree) → Stands volume.now.image t → told_at t owners.now block ≡ Some (seen told)) }
+    ensures { IfOk result (λ told. (t : Tree) → Stands volume.now.image t → told_at t unread.now owners.now block ≡ Some (seen told)) }
 {
     let owner = owner_of(volume, owners, block);
     let path = entry_path(alloc, volume, block, owner)?;
@@ -49,6 +53,7 @@ pub(crate) fn owned_block(
         owner,
         path,
         span: span_of(volume, block, owner),
+        unread: unread_of(unread, block as usize),
     })
 }
 

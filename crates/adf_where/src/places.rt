@@ -1,23 +1,10 @@
 //! The places of blocks on a disk, and the blocks that arguments name.
 ghost use Rattle.std.specs.Prelude.{◌≡◌, ◌<◌, All, IfErr, IfOk};
-ghost use Rattle.adf_where.specs.Where.{AreNamed, IsWhereFault, cylinder_of, head_of, inside, named, sector_of, track};
+ghost use Rattle.adf_where.specs.Where.{AreNamed, IsWhereFault, cylinder_of, head_of, sector_of};
 
 use crate::where_fault::WhereFault;
-use adf_words::{BlockWord, DOUBLE_TRACK, HEADS, HIGH_DENSITY, HIGH_TRACK};
+use adf_cli::{BlockWord, HEADS, track, volume_block};
 use std::alloc::Global;
-
-/// The sectors in a track of a disk with so many blocks.
-pub(crate) fn track(blocks: u32) -> u32
-    ensures value { result ≡ track blocks }
-    ensures some { 0 < result }
-    ensures short { result < 23 }
-{
-    if blocks == HIGH_DENSITY {
-        HIGH_TRACK
-    } else {
-        DOUBLE_TRACK
-    }
-}
 
 /// The blocks that these arguments name in a volume with so many blocks.
 pub(crate) fn named_blocks(
@@ -31,7 +18,7 @@ pub(crate) fn named_blocks(
 {
     let mut found = Vec::new(alloc);
     for word in words {
-        let Some(block) = named_block(blocks, *word) else {
+        let Some(block) = volume_block(blocks, *word) else {
             return Err(WhereFault::NoBlock(*word));
         };
         let Ok(()) = found.push(block) else {
@@ -39,38 +26,6 @@ pub(crate) fn named_blocks(
         };
     }
     Ok(found)
-}
-
-/// The block that an argument names in a volume with so many blocks.
-pub(crate) fn named_block(blocks: u32, word: BlockWord) -> Option<u32>
-    ensures { result ≡ named blocks word }
-{
-    match word {
-        BlockWord::Number(number) => inside(blocks, u64::from(number)),
-        BlockWord::Sector {
-            cylinder,
-            head,
-            sector,
-        } => {
-            let track = track(blocks);
-            if head >= HEADS || sector >= track {
-                return None;
-            }
-            let above = u64::from(HEADS) * u64::from(cylinder) + u64::from(head);
-            inside(blocks, u64::from(track) * above + u64::from(sector))
-        }
-    }
-}
-
-/// A number, if a volume with so many blocks has such a block.
-fn inside(blocks: u32, number: u64) -> Option<u32>
-    ensures { result ≡ inside blocks number }
-{
-    if number < u64::from(blocks) {
-        Some(number as u32)
-    } else {
-        None
-    }
 }
 
 /// The cylinder of a block, from 0.

@@ -1,6 +1,6 @@
 //! Why nothing is told of blocks.
+use adf_cli::BlockWord;
 use adf_io::PrintFault;
-use adf_words::BlockWord;
 use std::alloc::AllocError;
 
 /// Why nothing is told of blocks.

@@ -1,7 +1,7 @@
 //! The lines of blocks with their owners.
 ghost use Rattle.std.specs.Prelude.{◌≡◌, ◌++◌, IfOk, OnOk, option_map};
 ghost use Rattle.std.specs.String.{string_bytes};
-ghost use Rattle.adf_where.specs.Where.{owner_text, path_text, place_text, slash, span_text};
+ghost use Rattle.adf_where.specs.Where.{owner_text, path_text, place_text, slash, span_text, unread_line};
 
 use crate::forms::Tell;
 use crate::owned::{OwnedBlock, Span, entry_of};
@@ -15,7 +15,7 @@ impl Tell for OwnedBlock {
 
     ghost lines_of = { λ blocks owned. where_line blocks (seen owned) };
 
-    /// Appends the line of a block.
+    /// Appends the line of a block, and that of one that could not be read.
     fn push_lines(&self, alloc: Global, text: &mut Vec<u8>, blocks: u32) -> Result<(), AllocError> {
         let place = place_text(alloc, blocks, self.block)?;
         let owner = owner_text(alloc, self.owner)?;
@@ -24,7 +24,25 @@ impl Tell for OwnedBlock {
         push_path(alloc, text, self)?;
         push_span(alloc, text, self.span)?;
         text.push(b'\n')?;
-        Ok(())
+        push_unread(alloc, text, self.unread, self.block)
+    }
+}
+
+/// Appends the line of a block that could not be read.
+pub(crate) fn push_unread(
+    alloc: Global,
+    text: &mut Vec<u8>,
+    unread: Option<bool>,
+    block: u32,
+) -> Result<(), AllocError>
+    ensures { OnOk result (text.new.items ≡ text.old.items ++ unread_line unread block) }
+{
+    match unread {
+        Some(true) => {
+            let line = format!(in alloc; "{block}  unread\n")?;
+            text.extend_from_slice(line.as_bytes())
+        }
+        _ => Ok(()),
     }
 }
 

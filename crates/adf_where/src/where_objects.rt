@@ -3,12 +3,12 @@ ghost use Rattle.std.specs.Prelude.{◌≡◌, ◌++◌, ◌∷◌, [], OnOk, co
 ghost use Rattle.std.specs.String.{string_bytes};
 ghost use Rattle.json.specs.Token.{key};
 ghost use Rattle.adf_record.specs.Members.{string_token};
-ghost use Rattle.adf_where.specs.Where.{owner_tokens, owner_word, place_tokens, position_of, seen};
+ghost use Rattle.adf_where.specs.Where.{owner_tokens, owner_word, place_tokens, position_of, seen, unread_tokens};
 
 use crate::forms::Put;
 use crate::owned::{OwnedBlock, Span};
 use crate::places::{cylinder_of, head_of, sector_of};
-use adf_record::{put_number, put_text};
+use adf_record::{put_flag, put_number, put_text};
 use ados_volume::Owner;
 use json::Writer;
 use std::alloc::AllocError;
@@ -23,7 +23,19 @@ impl Put for OwnedBlock {
         writer.begin_object()?;
         put_place(writer, blocks, self.block)?;
         put_owner(writer, self)?;
+        put_unread(writer, self.unread)?;
         writer.end_object()
+    }
+}
+
+/// Writes whether a block could not be read, if that is asked.
+pub(crate) fn put_unread(writer: &mut Writer, unread: Option<bool>) -> Result<(), AllocError>
+    ensures before { writer.new.before ≡ writer.old.before }
+    ensures tokens { OnOk result (writer.new.tokens ≡ writer.old.tokens ++ unread_tokens unread) }
+{
+    match unread {
+        Some(unread) => put_flag(writer, "unread", unread),
+        None => Ok(()),
     }
 }
 

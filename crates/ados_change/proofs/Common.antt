@@ -16,7 +16,7 @@ pub use Rattle.ados_chain.proofs.Changes.{slot_at-small}
 pub use Rattle.ados_chain.proofs.Spelling.{Chained-kept}
 pub use Rattle.ados_chain.specs.Chains.{InChains, IsEntryBlock, LawfulChains, name_at, slot_at, with_last, without}
 pub use Rattle.ados_chain.specs.Relinks.{AtLinks, CanInsert, CanUnlink, InsertsLast, Relinks, Unlinks, link_block, link_long}
-pub use Rattle.ados_change.specs.Behind.{KeepsBehindName}
+pub use Rattle.ados_change.specs.AfterName.{KeepsAfterName}
 pub use Rattle.ados_change.specs.Conditions.{CanMake, CanRemove, CanRename, IsDirectoryKey, IsEmpty, IsUnder}
 pub use Rattle.ados_change.specs.FieldTold.{commented, dated, protected}
 pub use Rattle.ados_change.specs.Kinds.{content_of}

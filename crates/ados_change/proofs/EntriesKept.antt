@@ -1,5 +1,5 @@
 -- A change of fields or of entries leaves all bytes outside fields untouched.
-use Rattle.ados_change.proofs.Common.{◌≡◌, ◌≢◌, ℕ, ◌+◌, ◌-◌, ◌/◌, ◌<◌, ◌≤◌, ◌⊎◌, inl, inr, List, length, Some, refl, sym, ap, ◌∙◌, subst, arith, InLongs, pointer_count, byte_at, long, secondary_type, COMMENT_BYTE, NAME_BYTE, SameBut, same_long, same_weaken, boot_same, Content, Node, Tree, root, Directory, File, Duty, HasDuty, Stands, type_of, Role, IsFile, Kept, KeepsFirstData, IsField, Alike, InText, root_longs, root_name, page_longs, directory_longs, file_longs, entry_name, entry_comment, extension_longs, ofs_data_longs, ofs_data, ffs_data, root_or_parent, StandsAt, IsFileNode, file_at, reached_stands, serves_at, duty_of, root_at, entry_at, KeepsBehindName, IsChanged, IsPage, IsPlain, IsWritten, sum, table, bits, date, disk, link, of_none, of_node, of_name, of_comment, Bool, NEXT_IN_CHAIN, InBlock, OnlyBlock, HasFreeBit, MapPlace, BitChanged, page_block, page_of, Date3, AtLinks, Relinks, AtTitle, Dated, Titled}
+use Rattle.ados_change.proofs.Common.{◌≡◌, ◌≢◌, ℕ, ◌+◌, ◌-◌, ◌/◌, ◌<◌, ◌≤◌, ◌⊎◌, inl, inr, List, length, Some, refl, sym, ap, ◌∙◌, subst, arith, InLongs, pointer_count, byte_at, long, secondary_type, COMMENT_BYTE, NAME_BYTE, SameBut, same_long, same_weaken, boot_same, Content, Node, Tree, root, Directory, File, Duty, HasDuty, Stands, type_of, Role, IsFile, Kept, KeepsFirstData, IsField, Alike, InText, root_longs, root_name, page_longs, directory_longs, file_longs, entry_name, entry_comment, extension_longs, ofs_data_longs, ofs_data, ffs_data, root_or_parent, StandsAt, IsFileNode, file_at, reached_stands, serves_at, duty_of, root_at, entry_at, KeepsAfterName, IsChanged, IsPage, IsPlain, IsWritten, sum, table, bits, date, disk, link, of_none, of_node, of_name, of_comment, Bool, NEXT_IN_CHAIN, InBlock, OnlyBlock, HasFreeBit, MapPlace, BitChanged, page_block, page_of, Date3, AtLinks, Relinks, AtTitle, Dated, Titled}
 use Rattle.ados_model.specs.Kept.{directory_runs, file_runs}
 use Rattle.ados_model.specs.declared.role.Role.TheVariants as roles
 use Rattle.ados_change.proofs.Keeping.{header_stays}
@@ -126,7 +126,7 @@ module _ (old new : List ℕ) (t : Tree) (st : Stands old t) (h : SameBut (IsCha
   node_unchanged b i a at plain behind name (inr (of_comment x e n text short)) = omega (arith, behind, short)
 
   -- nothing after a node's name is written
-  pub behind_name : (key : ℕ) (a : Node) → t.nodes key ≡ Some a → (name : List ℕ) → byte_at new key NAME_BYTE ≡ length name → KeepsBehindName key name old new
+  pub behind_name : (key : ℕ) (a : Node) → t.nodes key ≡ Some a → (name : List ℕ) → byte_at new key NAME_BYTE ≡ length name → KeepsAfterName key name old new
   behind_name key a at name counted i above within = h.same_byte key i (omega (arith, within)) (node_unchanged key i a at (λ x p. omega (arith, above, within, plain_at p)) (omega (arith, above)) (λ text short. omega (arith, text.1, counted, above)))
 
   typed : (b : ℕ) (a : Node) → t.nodes b ≡ Some a → b ≢ root t → secondary_type new b ≡ type_of a.content

@@ -1,5 +1,5 @@
 -- An entry in no list gets another name and directory: the image represents the tree with them.
-use Rattle.ados_change.proofs.Common.{◌≡◌, ◌≢◌, ℕ, ◌+◌, ◌/◌, ◌<◌, ◌≤◌, ◌⊎◌, inl, inr, List, length, Option, Some, is_some, option_map, refl, sym, ap, ◌∙◌, subst, arith, block_sum, long, Chained, HasText, table_entry, parent_key, COMMENT_BYTE, NAME_BYTE, NEXT_IN_CHAIN, same_weaken, IsName, Node, Tree, root, size_in, Directory, changed, Layout, HasNode, HasEntry, in_slot, SameBut, AtTitle, Titled, Chained-kept, block_count, byte_at, root_key, HasFreeBit, same_count, same_trans, Date3, slot_at-small, LawfulChains, slot_at, CanInsert, InsertsLast, Unlinks, link_block, link_long, InImage, entered, renamed, KeepsRest, TakesNone, Stands, CanRename, Dated, stamped, IsChanged, IsWritten, KeepsBehindName, enter, entries, name_of, slot, IsSome, content_at, File, Content, IsImage}
+use Rattle.ados_change.proofs.Common.{◌≡◌, ◌≢◌, ℕ, ◌+◌, ◌/◌, ◌<◌, ◌≤◌, ◌⊎◌, inl, inr, List, length, Option, Some, is_some, option_map, refl, sym, ap, ◌∙◌, subst, arith, block_sum, long, Chained, HasText, table_entry, parent_key, COMMENT_BYTE, NAME_BYTE, NEXT_IN_CHAIN, same_weaken, IsName, Node, Tree, root, size_in, Directory, changed, Layout, HasNode, HasEntry, in_slot, SameBut, AtTitle, Titled, Chained-kept, block_count, byte_at, root_key, HasFreeBit, same_count, same_trans, Date3, slot_at-small, LawfulChains, slot_at, CanInsert, InsertsLast, Unlinks, link_block, link_long, InImage, entered, renamed, KeepsRest, TakesNone, Stands, CanRename, Dated, stamped, IsChanged, IsWritten, KeepsAfterName, enter, entries, name_of, slot, IsSome, content_at, File, Content, IsImage}
 use Rattle.ados_change.proofs.Unchanged.{AtLongs, sum-kept, long-kept, at_root, dated_count}
 use Rattle.ados_change.proofs.Changed.{changed_keeps, each_keeps, listed_file, was, nodes_other, relisted}
 use Rattle.ados_change.proofs.Loose.{Loose, Spells, slots_beside, kept, layout_is, left_is, proper_is_loose, stands}
@@ -204,7 +204,7 @@ module _ (old : List ℕ) (t : Tree) (st : Stands old t) (moment : Date3) (key d
         pub moved_gives_none : (b : ℕ) → InImage old b → HasFreeBit m6 b → HasFreeBit old b
         moved_gives_none = λ b inside free. sym (marks_stay old m6 t st moved_written b inside) ∙ free
 
-        pub moved_behind : KeepsBehindName key name old m6
+        pub moved_behind : KeepsAfterName key name old m6
         moved_behind = behind_name old m6 t st moved_changed key the_entry.0 the_entry.1 name counted
 
         -- each node was there

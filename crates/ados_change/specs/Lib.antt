@@ -7,7 +7,7 @@ pub mod Stamps
 pub mod Cuts
 pub mod Conditions
 pub mod Kinds
-pub mod Behind
+pub mod AfterName
 pub mod Laws
 pub mod Untold
 pub mod NewBlocks

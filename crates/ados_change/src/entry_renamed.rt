@@ -7,7 +7,7 @@ ghost use Rattle.ados_model.specs.Faults.{InImage};
 ghost use Rattle.ados_change.specs.NewBlocks.{KeepsRest, TakesNone};
 ghost use Rattle.ados_model.specs.Stands.{Stands};
 ghost use Rattle.ados_model.specs.Tree.{Tree};
-ghost use Rattle.ados_change.specs.Behind.{KeepsBehindName};
+ghost use Rattle.ados_change.specs.AfterName.{KeepsAfterName};
 ghost use Rattle.ados_change.specs.Conditions.{CanRename};
 
 use crate::block::{put_title, stamp, touch};
@@ -27,7 +27,7 @@ pub fn rename(image: &mut Image, key: u32, dir: u32, name: &Name, moment: Date3)
     ensures keeps { KeepsRest image.old image.new }
     ensures none { TakesNone image.old image.new }
     ensures gives_none { (block : ℕ) → InImage image.old block → HasFreeBit image.new block → HasFreeBit image.old block }
-    ensures behind { KeepsBehindName key name.now image.old image.new }
+    ensures behind { KeepsAfterName key name.now image.old image.new }
 {
     let from = image.long(key, PARENT);
     unlink(image, from, key);

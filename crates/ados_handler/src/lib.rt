@@ -4,6 +4,7 @@
 mod attributes;
 mod bytes;
 mod changing;
+mod describing;
 mod entries;
 mod files;
 mod free_block;
@@ -20,7 +21,6 @@ mod serve;
 mod set_size;
 mod table;
 mod target;
-mod told;
 mod within;
 
 pub use ados_model::{Action, Answer, Body, HandleHold, LockHold, Packet};

@@ -11,6 +11,10 @@ pages_of image = page_count (block_count image)
 abbrev pub page_block : List ℕ → ℕ → ℕ
 page_block image p = long image (root_key (block_count image)) (FIRST_PAGE + p)
 
+-- the root names the block as a bitmap block
+abbrev pub IsPage : List ℕ → ℕ → Type 0
+IsPage image block = (p : ℕ) × (p < pages_of image) × (page_block image p ≡ block)
+
 -- the bitmap blocks are after the boot blocks, no two the same and none the root
 pub record LawfulPages (image : List ℕ) : Type 0 where
   pub inside : (p : ℕ) → p < pages_of image → IsInside (block_count image) (page_block image p)

@@ -7,18 +7,18 @@ use Rattle.std.specs.Option.{option_map}
 use Rattle.std.proofs.lemmas.List.{append-nil}
 use Rattle.std.proofs.lemmas.Option.{none-some, same_Some, slice_get_within}
 use Rattle.std.proofs.lemmas.Bool.Decides.{eqb_tells}
-use Rattle.port_ends.specs.History.{ClientState, PortState, Serving, Event, packets_by, accepted_in, moments_in, served_count, server_by, client_state, Run, last_server, queue, client_now, PutFits, take_outcome, OutcomeFits, PortHistory, packet_accepted, moment_served, reply_taken}
-use Rattle.port_ends.specs.Lawful.{packets_of}
-use Rattle.port_ends.specs.Gives.{PutGives, ServeGives, TakeGives, StepGives}
-use Rattle.port_ends.specs.declared.step.Step.{Step}
-use Rattle.port_ends.specs.declared.step.Step.TheVariants.{Put, Serve, Take}
-use Rattle.port_ends.specs.declared.step.PutRefused.TheVariants.{Closed, NoRoom}
-use Rattle.port_ends.specs.declared.step.Reply.{Reply}
-use Rattle.port_ends.specs.declared.step.Outcome.{Outcome}
-use Rattle.port_ends.specs.declared.step.Outcome.TheVariants.{Accepted, Refused, Served, Idle, Taken, Nothing, NoClient}
+use Rattle.ados_port.specs.History.{ClientState, PortState, Serving, Event, packets_by, accepted_in, moments_in, served_count, server_by, client_state, Run, last_server, queue, client_now, PutFits, take_outcome, OutcomeFits, PortHistory, packet_accepted, moment_served, reply_taken}
+use Rattle.ados_port.specs.Lawful.{packets_of}
+use Rattle.ados_port.specs.Gives.{PutGives, ServeGives, TakeGives, StepGives}
+use Rattle.ados_port.specs.declared.step.Step.{Step}
+use Rattle.ados_port.specs.declared.step.Step.TheVariants.{Put, Serve, Take}
+use Rattle.ados_port.specs.declared.step.PutRefused.TheVariants.{Closed, NoRoom}
+use Rattle.ados_port.specs.declared.step.Reply.{Reply}
+use Rattle.ados_port.specs.declared.step.Outcome.{Outcome}
+use Rattle.ados_port.specs.declared.step.Outcome.TheVariants.{Accepted, Refused, Served, Idle, Taken, Nothing, NoClient}
 use Rattle.std.proofs.lemmas.Bool.{eq-eqb, ne_eqb}
-use Rattle.port_ends.proofs.Packets.{packets_by_here, packets_by_past}
-use Rattle.port_ends.proofs.Eachs.{get_set_same, get_set_other}
+use Rattle.ados_port.proofs.Packets.{packets_by_here, packets_by_past}
+use Rattle.ados_port.proofs.Eachs.{get_set_same, get_set_other}
 use Rattle.ados_port.proofs.Histories.{MatchOption-weaken, option_map-same, client_still}
 use Rattle.ados_port.proofs.Joining.{history_joins}
 

@@ -2,11 +2,11 @@
 use Rattle.std.proofs.Common.{◌≡◌, ℕ, List, [], ◌++◌, length, Some, slice_get, sym, ap, subst, ◌∙◌, append_assoc, arith}
 use Rattle.std.proofs.lemmas.Option.{slice_get_within, slice_get-get_or}
 use Rattle.std.proofs.Math.ListN.{get_or}
-use Rattle.port_ends.specs.History.{Serving}
-use Rattle.port_ends.specs.Rings.{OutView}
-use Rattle.port_ends.specs.Ends.{ClientView, HandlerView, AreEnds, Serves}
-use Rattle.port_ends.specs.Batches.{ServesSome, ServesSoMany, OnlyOffers}
-use Rattle.port_ends.proofs.Handling.{serves_more, serves_offers}
+use Rattle.ados_port.specs.History.{Serving}
+use Rattle.ados_port.specs.Rings.{OutView}
+use Rattle.ados_port.specs.Ends.{ClientView, HandlerView, AreEnds, Serves}
+use Rattle.ados_port.specs.Batches.{ServesSome, ServesSoMany, OnlyOffers}
+use Rattle.ados_port.proofs.Handling.{serves_more, serves_offers}
 use Rattle.ados_port.specs.Grown.{Grown}
 
 module _ {Q M A : Type 0} where

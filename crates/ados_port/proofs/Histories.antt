@@ -4,11 +4,11 @@ use Rattle.std.specs.Prelude.{Option}
 use Rattle.std.specs.Option.{option_map}
 use Rattle.std.proofs.lemmas.List.{append-nil, take-append-drop, length-map}
 use Rattle.std.proofs.lemmas.Option.{none-some, same_Some}
-use Rattle.port_ends.proofs.Serving.{run-length}
-use Rattle.port_ends.specs.History.{ClientState, PortState, Event, events_of, served_count, client_state, queue, client_now, PortHistory}
-use Rattle.port_ends.specs.Lawful.{packets_of}
-use Rattle.port_ends.specs.declared.step.Step.{Step}
-use Rattle.port_ends.specs.declared.step.Outcome.{Outcome}
+use Rattle.ados_port.proofs.Serving.{run-length}
+use Rattle.ados_port.specs.History.{ClientState, PortState, Event, events_of, served_count, client_state, queue, client_now, PortHistory}
+use Rattle.ados_port.specs.Lawful.{packets_of}
+use Rattle.ados_port.specs.declared.step.Step.{Step}
+use Rattle.ados_port.specs.declared.step.Outcome.{Outcome}
 
 -- an element of a list after a push, with its index
 pub slice_get-push_at : {A : Type 0} (xs : List A) (y : A) (i : ℕ) (x : A) → slice_get (xs ++ y ∷ []) i ≡ Some x

@@ -5,18 +5,18 @@ use Rattle.std.proofs.lemmas.List.{map-append, take-append-le, length-take, drop
 use Rattle.std.proofs.lemmas.List.Elements.{filter_map-append}
 use Rattle.std.proofs.lemmas.Bool.Decides.{eqb_tells}
 use Rattle.std.proofs.Math.Seq.{take-append-add, drop-append-add}
-use Rattle.port_ends.proofs.Events.{filter_map-take}
+use Rattle.ados_port.proofs.Events.{filter_map-take}
 use Rattle.std.proofs.lemmas.Bool.{eq-eqb, ne_eqb}
-use Rattle.port_ends.proofs.Lawful.{length-numbered}
-use Rattle.port_ends.proofs.Replies.{took_first}
-use Rattle.port_ends.proofs.Serving.{packets_by-append, answers_to-append}
-use Rattle.port_ends.proofs.Serving.{run-append, last_server-append}
-use Rattle.port_ends.specs.History.{ClientState, PortState, Serving, Event, events_of, packets_by, accepted_in, moments_in, taken_in, served_count, taken_count, client_state, Run, last_server, queue, client_now, PutFits, take_outcome, OutcomeFits, PortHistory, moment_served}
-use Rattle.port_ends.specs.Lawful.{accepted_count, packets_of, answers_to}
-use Rattle.port_ends.specs.declared.step.Step.{Step}
-use Rattle.port_ends.specs.declared.step.Step.TheVariants.{Put, Serve, Take}
-use Rattle.port_ends.specs.declared.step.Outcome.{Outcome}
-use Rattle.port_ends.specs.declared.step.Outcome.TheVariants.{Served, Idle, NoClient}
+use Rattle.ados_port.proofs.Lawful.{length-numbered}
+use Rattle.ados_port.proofs.Replies.{took_first}
+use Rattle.ados_port.proofs.Serving.{packets_by-append, answers_to-append}
+use Rattle.ados_port.proofs.Serving.{run-append, last_server-append}
+use Rattle.ados_port.specs.History.{ClientState, PortState, Serving, Event, events_of, packets_by, accepted_in, moments_in, taken_in, served_count, taken_count, client_state, Run, last_server, queue, client_now, PutFits, take_outcome, OutcomeFits, PortHistory, moment_served}
+use Rattle.ados_port.specs.Lawful.{accepted_count, packets_of, answers_to}
+use Rattle.ados_port.specs.declared.step.Step.{Step}
+use Rattle.ados_port.specs.declared.step.Step.TheVariants.{Put, Serve, Take}
+use Rattle.ados_port.specs.declared.step.Outcome.{Outcome}
+use Rattle.ados_port.specs.declared.step.Outcome.TheVariants.{Served, Idle, NoClient}
 use Rattle.ados_port.proofs.Histories.{served_length, servers_length, queue_is, MatchOption-map, MatchOption-weaken, option_map-both}
 
 events-append : {Q M A : Type 0} (steps more : List (Step Q M)) (outcomes after : List (Outcome Q A)) → length outcomes ≡ length steps

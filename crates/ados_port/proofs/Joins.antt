@@ -3,8 +3,8 @@ use Rattle.std.proofs.Common.{◌≡◌, ℕ, zero, suc, Result, Ok, Err, OnOk, 
 use Rattle.std.specs.Result.{result_and}
 use Rattle.std.proofs.lemmas.List.{length-map, map-append}
 use Rattle.std.proofs.lemmas.Option.{none-some}
-use Rattle.port_ends.specs.Ends.{ClientView}
-use Rattle.port_ends.proofs.Moves.{get_end}
+use Rattle.ados_port.specs.Ends.{ClientView}
+use Rattle.ados_port.proofs.Moves.{get_end}
 use Rattle.ados_port.specs.Grown.{Did, EachDid}
 
 pub nil_of : {X : Type 0} (xs : List X) → length xs ≡ 0 → xs ≡ []

@@ -6,7 +6,7 @@ use Rattle.std.proofs.lemmas.List.{length-set}
 use Rattle.std.proofs.lemmas.Option.{same_Some, slice_get_read, slice_get_within}
 use Rattle.std.proofs.lemmas.Bool.Decides.{eqb_tells}
 use Rattle.std.proofs.lemmas.Bool.{eq-eqb, ne_eqb}
-use Rattle.port_ends.proofs.Eachs.{get_set_same, get_set_other}
+use Rattle.ados_port.proofs.Eachs.{get_set_same, get_set_other}
 use Rattle.ados_port.specs.View.{IsKept}
 use Rattle.ados_port.proofs.Histories.{slice_get-push_at}
 use Rattle.ados_port.specs.declared.counts.Client.{Client}

@@ -6,14 +6,14 @@ use Rattle.std.specs.List.{cons_option}
 use Rattle.std.proofs.lemmas.List.{length-map, length-set}
 use Rattle.std.proofs.lemmas.Option.{none-some, same_Some, slice_get_within, slice_get-get_or, slice_get-map}
 use Rattle.std.proofs.lemmas.Bool.Decides.{eqb_tells}
-use Rattle.port_ends.proofs.Packets.{packets_by_here, packets_by_past}
-use Rattle.port_ends.specs.History.{ClientState, PortHistory, accepted_in, client_now, client_state, packet_accepted, packets_by, queue}
-use Rattle.port_ends.specs.Gives.{StepGives}
-use Rattle.port_ends.specs.declared.step.Step.{Step}
-use Rattle.port_ends.specs.declared.step.Step.TheVariants.{Put, Serve, Take}
-use Rattle.port_ends.specs.declared.step.PutRefused.TheVariants.{NoRoom}
-use Rattle.port_ends.specs.declared.step.Outcome.{Outcome}
-use Rattle.port_ends.specs.declared.step.Outcome.TheVariants.{Refused, Taken, Nothing, NoClient}
+use Rattle.ados_port.proofs.Packets.{packets_by_here, packets_by_past}
+use Rattle.ados_port.specs.History.{ClientState, PortHistory, accepted_in, client_now, client_state, packet_accepted, packets_by, queue}
+use Rattle.ados_port.specs.Gives.{StepGives}
+use Rattle.ados_port.specs.declared.step.Step.{Step}
+use Rattle.ados_port.specs.declared.step.Step.TheVariants.{Put, Serve, Take}
+use Rattle.ados_port.specs.declared.step.PutRefused.TheVariants.{NoRoom}
+use Rattle.ados_port.specs.declared.step.Outcome.{Outcome}
+use Rattle.ados_port.specs.declared.step.Outcome.TheVariants.{Refused, Taken, Nothing, NoClient}
 use Rattle.ados_port.specs.Exchanges.{CanCount, ExchangeView, HasPlacesFor, IsFull, KeepsPlaces, NoneIsFull, RefusesIfFull, open_packets, puts_in}
 use Rattle.ados_port.specs.View.{clients_view, places_view, waiting_view}
 use Rattle.ados_port.specs.steps.Taking.{HasNoPlace, places_of}

@@ -5,13 +5,13 @@ use Rattle.std.specs.Bool.{MatchBool}
 use Rattle.std.specs.Option.{option_map}
 use Rattle.std.proofs.lemmas.List.{map-set, map-append}
 use Rattle.std.proofs.lemmas.Option.{slice_get-map, same_Some}
-use Rattle.port_ends.specs.History.{ClientState, PortState, client_state}
+use Rattle.ados_port.specs.History.{ClientState, PortState, client_state}
 use Rattle.ados_port.specs.View.{clients_view, waiting_view}
-use Rattle.port_ends.specs.Gives.{PutGives, ServeGives, TakeGives}
+use Rattle.ados_port.specs.Gives.{PutGives, ServeGives, TakeGives}
 use Rattle.ados_port.specs.declared.counts.Client.{Client}
 use Rattle.ados_port.specs.declared.exchange.Waiting.{Waiting}
-use Rattle.port_ends.specs.declared.step.PutRefused.TheVariants.{NoRoom}
-use Rattle.port_ends.specs.declared.step.Outcome.TheVariants.{Accepted, Refused, Served, Taken, Nothing}
+use Rattle.ados_port.specs.declared.step.PutRefused.TheVariants.{NoRoom}
+use Rattle.ados_port.specs.declared.step.Outcome.TheVariants.{Accepted, Refused, Served, Taken, Nothing}
 use Rattle.std.proofs.lemmas.Bool.{ne_eqb}
 
 -- the visible state of a client, and of an exchange

@@ -2,13 +2,13 @@
 use Rattle.std.specs.Prelude.{◌≡◌, ◌≢◌, ◌⊎◌, ℕ, ◌+◌, ◌-◌, ◌≤◌, List, length, slice_get, Some, refl}
 use Rattle.std.specs.List.{sum_by}
 use Rattle.std.specs.Coded.{Coded, code_by, coded×, coded_ℕ, coded_list}
-use Rattle.port_ends.specs.History.{ClientState, PortState, client_state}
-use Rattle.port_ends.specs.Codes.{port_code}
-use Rattle.port_ends.specs.declared.step.Step.{Step}
-use Rattle.port_ends.specs.declared.step.Step.TheVariants.{Put, Serve, Take}
-use Rattle.port_ends.specs.declared.step.PutRefused.TheVariants.{NoRoom}
-use Rattle.port_ends.specs.declared.step.Outcome.{Outcome}
-use Rattle.port_ends.specs.declared.step.Outcome.TheVariants.{Refused}
+use Rattle.ados_port.specs.History.{ClientState, PortState, client_state}
+use Rattle.ados_port.specs.Codes.{port_code}
+use Rattle.ados_port.specs.declared.step.Step.{Step}
+use Rattle.ados_port.specs.declared.step.Step.TheVariants.{Put, Serve, Take}
+use Rattle.ados_port.specs.declared.step.PutRefused.TheVariants.{NoRoom}
+use Rattle.ados_port.specs.declared.step.Outcome.{Outcome}
+use Rattle.ados_port.specs.declared.step.Outcome.TheVariants.{Refused}
 
 -- an exchange: its port, the number of places in its list of waiting packets, and for each client the number of places
 -- in its list of replies

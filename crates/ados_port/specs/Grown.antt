@@ -1,6 +1,6 @@
 -- A client's end, later.
 use Rattle.std.specs.Prelude.{◌≡◌, ℕ, true, List, ◌++◌, length, Some, slice_get}
-use Rattle.port_ends.specs.Ends.{ClientView}
+use Rattle.ados_port.specs.Ends.{ClientView}
 
 -- the same end, with more puts and more takes. An end that knew of the close still knows
 pub record Grown {Q M A : Type 0} (old new : ClientView Q M A) : Type 0 where

@@ -1,19 +1,18 @@
--- Definitions for the contracts of a port: the visible state of an exchange with the places of its lists, a refused run,
--- and what a client's thread may do to its end. Definitions for steps are in `steps`.
+-- A port and what its server has served; its steps, one by one and as a history; its server's death; the lists of its ends; and
+-- the laws. Then definitions for the contracts of a port's ends, of the exchange on one thread with the places of its lists, of a
+-- refused run, and of what a client's thread may do to its end. Definitions for steps are in `steps`.
+pub mod History
+pub mod Gives
+pub mod Codes
+pub mod Lawful
+pub mod Lists
+pub mod Laws
+pub mod Rings
+pub mod Ends
+pub mod Batches
+pub mod Gathering
 pub mod Exchanges
 pub mod View
 pub mod Refused
 pub mod Grown
-pub use Rattle.port_ends.specs.declared.step.Step
-pub use Rattle.port_ends.specs.declared.step.Outcome
-pub use Rattle.port_ends.specs.declared.step.PutRefused
-pub use Rattle.port_ends.specs.declared.step.Reply
-pub use Rattle.port_ends.specs.Gives
-pub use Rattle.port_ends.specs.History
-pub use Rattle.port_ends.specs.Lawful
-pub use Rattle.port_ends.specs.Lists
-pub use Rattle.port_ends.specs.Laws
-pub use Rattle.port_ends.specs.Ends
-pub use Rattle.port_ends.specs.Batches
-pub use Rattle.port_ends.specs.Gathering
 pub mod steps

@@ -1,7 +1,7 @@
 -- What a refused run of steps hands back.
 use Rattle.std.specs.Prelude.{◌≡◌, List}
 use Rattle.ados_port.specs.Exchanges.{ExchangeView}
-use Rattle.port_ends.specs.declared.step.Step.{Step}
+use Rattle.ados_port.specs.declared.step.Step.{Step}
 use Rattle.ados_port.specs.declared.steps.RunRefused.{RunRefused}
 
 -- the exchange and the steps, unchanged

@@ -1,6 +1,6 @@
 -- The visible state of an exchange.
 use Rattle.std.specs.Prelude.{◌≡◌, ℕ, ◌+◌, ◌==◌, ◌≤◌, List, map, count_by, length, slice_get, Some}
-use Rattle.port_ends.specs.History.{ClientState}
+use Rattle.ados_port.specs.History.{ClientState}
 use Rattle.ados_port.specs.steps.Taking.{places_of}
 use Rattle.ados_port.specs.declared.counts.Client.{Client}
 use Rattle.ados_port.specs.declared.exchange.Waiting.{Waiting}

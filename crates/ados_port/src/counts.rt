@@ -2,7 +2,7 @@
 ghost use Rattle.std.specs.Prelude.{◌≡◌, ◌+◌, ◌≤◌, ◌<◌, [], ◌∷◌, ◌++◌, IfNone, MatchOption};
 ghost use Rattle.std.specs.VecDeque.{deque_len, deque_capacity};
 
-use port_ends::Reply;
+use crate::Reply;
 use std::alloc::Global;
 use std::collections::VecDeque;
 

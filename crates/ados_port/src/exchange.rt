@@ -1,13 +1,13 @@
 //! The exchange: a server, its port and its clients' replies.
 ghost use Rattle.std.specs.Prelude.{◌≡◌, ◌≤◌, [], ◌∷◌, MatchResult};
-ghost use Rattle.port_ends.specs.History.{opening_port, PortHistory};
-ghost use Rattle.port_ends.specs.Gives.{PutGives, ServeGives, TakeGives, StepGives};
-ghost use Rattle.port_ends.specs.declared.step.PutRefused.TheVariants.{NoRoom};
-ghost use Rattle.port_ends.specs.declared.step.Outcome.TheVariants.{Refused};
+ghost use Rattle.ados_port.specs.History.{opening_port, PortHistory};
+ghost use Rattle.ados_port.specs.Gives.{PutGives, ServeGives, TakeGives, StepGives};
+ghost use Rattle.ados_port.specs.declared.step.PutRefused.TheVariants.{NoRoom};
+ghost use Rattle.ados_port.specs.declared.step.Outcome.TheVariants.{Refused};
 ghost use Rattle.ados_port.specs.Exchanges.{HasPlacesFor, IsFull, KeepsPlaces, RefusesIfFull};
 
 use crate::counts::Client;
-use port_ends::{Outcome, PutRefused, Server, Step};
+use crate::{Outcome, PutRefused, Server, Step};
 use std::alloc::Global;
 use std::collections::VecDeque;
 use std::marker::Model;

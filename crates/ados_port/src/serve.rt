@@ -1,11 +1,11 @@
 //! The clients' threads, and the handler's batches meanwhile.
 ghost use Rattle.std.specs.Prelude.{◌≡◌, ◌≤◌, [], IfOk, OnOk, length, map, vec_capacity};
-ghost use Rattle.port_ends.specs.Ends.{AreEnds};
-ghost use Rattle.port_ends.specs.Batches.{ServesSome, LastFoundNothing};
+ghost use Rattle.ados_port.specs.Ends.{AreEnds};
+ghost use Rattle.ados_port.specs.Batches.{ServesSome, LastFoundNothing};
 ghost use Rattle.ados_port.specs.Grown.{Did, EachDid};
 
-use crate::client::Client;
-use port_ends::{ClientEnd, HandlerEnd, Rest, Server};
+use crate::client_task::Client;
+use crate::{ClientEnd, HandlerEnd, Rest, Server};
 use std::alloc::{AllocError, Global};
 use std::collections::VecDeque;
 use std::snapshot::Snapshot;

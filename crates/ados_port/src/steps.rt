@@ -1,12 +1,12 @@
 //! Runs a list of steps at an exchange.
 ghost use Rattle.std.specs.Prelude.{◌≡◌, true, IfOk, MatchResult};
-ghost use Rattle.port_ends.specs.History.{PortHistory, events_of};
-ghost use Rattle.port_ends.specs.Gives.{FirstAreServed, PutsAreClosed};
+ghost use Rattle.ados_port.specs.History.{PortHistory, events_of};
+ghost use Rattle.ados_port.specs.Gives.{FirstAreServed, PutsAreClosed};
 ghost use Rattle.ados_port.specs.Refused.{HandsBack};
 ghost use Rattle.ados_port.specs.Exchanges.{CanCount, HasPlacesFor, NoneIsFull, put_count};
 
 use crate::exchange::Exchange;
-use port_ends::{Outcome, Server, Step};
+use crate::{Outcome, Server, Step};
 use std::alloc::Global;
 use std::collections::VecDeque;
 

@@ -18,9 +18,9 @@ pub use Rattle.ados_port.specs.Ends.{AreEnds, ClientView, CloseMeansDeath, Handl
 pub use Rattle.ados_port.specs.Grown.{EachDid, Grown}
 pub use Rattle.ados_port.specs.History.{Event, OutcomeFits, PortHistory, PortState, Run, ServerMeaning, Serving, events_of, last_server, opening_port, served_count}
 pub use Rattle.ados_port.specs.Lawful.{ClientLists, Lawful, numbered, served_by}
-pub use Rattle.ados_port.specs.Outcome.{Outcome}
-pub use Rattle.ados_port.specs.Reply.{Reply}
-pub use Rattle.ados_port.specs.Step.{Step}
+pub use Rattle.ados_port.specs.declared.step.Outcome.{Outcome}
+pub use Rattle.ados_port.specs.declared.step.Reply.{Reply}
+pub use Rattle.ados_port.specs.declared.step.Step.{Step}
 pub use Rattle.ados_run.specs.Asking.{Replied, Rests, StoppedBy, stop_ending, stop_line}
 pub use Rattle.ados_run.specs.Keeping.{KeepsServed, KeepsVolume, ServesBoth}
 pub use Rattle.ados_run.specs.Runs.{BothSides, FollowsTree, HandlerPort, MeansBoth, PacketOutcomes, PacketSteps, RestsAfter, RunsVolume, RunsWith, handler_after, port_beside}

@@ -12,8 +12,8 @@ use Rattle.ados_run.specs.Replays.{SameOutcomesSameBytes, answers_of}
 use Rattle.ados_run.specs.Runs.{HandlerPort, PacketOutcomes, PacketSteps}
 use Rattle.ados_run.specs.TreeLists.{ServedPackets, handler_died}
 use Rattle.ados_run.proofs.SameRuns.{same_steps_same_bytes}
-use Rattle.port_ends.proofs.Lawful.{history-lawful}
-use Rattle.port_ends.proofs.Serving.{answers_to-append, packets_by-other, packets_by-own}
+use Rattle.ados_port.proofs.Lawful.{history-lawful}
+use Rattle.ados_port.proofs.Serving.{answers_to-append, packets_by-other, packets_by-own}
 
 -- ---- lists with an element for each client
 

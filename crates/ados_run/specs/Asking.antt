@@ -1,6 +1,6 @@
 -- The result of a client's packet. The client's end is given before and after.
 use Rattle.std.specs.Prelude.{◌≡◌, ℕ, true, List, [], ◌∷◌, ◌++◌, length}
-use Rattle.ados_port.specs.Reply.{Reply}
+use Rattle.ados_port.specs.declared.step.Reply.{Reply}
 use Rattle.ados_port.specs.Ends.{ClientView}
 use Rattle.adf_script.specs.declared.ending.ClientEnding.{ClientEnding}
 use Rattle.adf_script.specs.declared.ending.ClientEnding.TheVariants.{Done, Tries}

@@ -9,7 +9,7 @@ use Rattle.ados_model.specs.{Session.opening_session, Stands.Stands, Packet.refu
 use Rattle.ados_handler.specs.HandlerState.{HandlerState}
 use Rattle.ados_model.specs.declared.{packet.Packet.Packet, answer.Answer.Answer}
 use Rattle.ados_model.specs.declared.{dos_error.DosError.TheVariants.DeviceNotMounted}
-use Rattle.ados_port.specs.{Step.Step, Outcome.Outcome}
+use Rattle.ados_port.specs.declared.step.{Step.Step, Outcome.Outcome}
 use Rattle.ados_port.specs.History.{PortState, Serving, ServerMeaning, PortHistory, last_server, opening_port}
 use Rattle.ados_port.specs.History.{ClosedOnceDead}
 

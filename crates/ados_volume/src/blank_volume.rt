@@ -11,8 +11,8 @@ ghost use Rattle.ados_model.specs.Blank.{IsBlank};
 ghost use Rattle.ados_volume.specs.steps.BlankParts.{IsBlankRoot, NamesBlank};
 
 use crate::cache::NameCache;
+use crate::listed_cache::ListedCache;
 use crate::places::PlaceCache;
-use crate::told::ToldCache;
 use crate::volume::Volume;
 use adf_block::beside::CHECKSUM;
 use adf_block::layout::{
@@ -41,9 +41,9 @@ pub fn blank(
 {
     let names = NameCache::new(alloc);
     let places = PlaceCache::new(alloc)?;
-    let told = ToldCache::new(alloc)?;
+    let listed = ListedCache::new(alloc)?;
     let image = blank_image(alloc, format, blocks, &name, moment)?;
-    Ok(Volume::standing(image, false, names, places, told))
+    Ok(Volume::standing(image, false, names, places, listed))
 }
 
 /// The image of a blank volume.

@@ -3,8 +3,8 @@
 ghost use Rattle.ados_volume.specs.Checked.{Checks};
 
 use crate::cache::NameCache;
+use crate::listed_cache::ListedCache;
 use crate::places::PlaceCache;
-use crate::told::ToldCache;
 use crate::volume::Volume;
 use adf_block::Image;
 use ados_check::{Rejected, check_image};
@@ -19,7 +19,7 @@ use std::alloc::Global;
 pub fn check(alloc: Global, image: Image) -> Result<Volume, Rejected>
     ensures { Checks image result }
 {
-    let (Ok(places), Ok(told)) = (PlaceCache::new(alloc), ToldCache::new(alloc)) else {
+    let (Ok(places), Ok(listed)) = (PlaceCache::new(alloc), ListedCache::new(alloc)) else {
         return Err(Rejected {
             image,
             fault: VolumeFault {
@@ -30,5 +30,11 @@ pub fn check(alloc: Global, image: Image) -> Result<Volume, Rejected>
     };
     let accepted = check_image(alloc, image)?;
     let names = NameCache::new(alloc);
-    Ok(Volume::standing(accepted.image, accepted.was_validated, names, places, told))
+    Ok(Volume::standing(
+        accepted.image,
+        accepted.was_validated,
+        names,
+        places,
+        listed,
+    ))
 }

@@ -8,7 +8,7 @@ ghost use Rattle.ados_model.specs.Stands.{Stands, in_slot};
 ghost use Rattle.ados_model.specs.Keys.{HasKey, HasTree};
 ghost use Rattle.ados_change.specs.NewBlocks.{KeepsBlock, KeepsRest, TakesNone};
 ghost use Rattle.ados_model.specs.Change.{removed, renamed};
-ghost use Rattle.ados_change.specs.Behind.{KeepsBehindName};
+ghost use Rattle.ados_change.specs.AfterName.{KeepsAfterName};
 ghost use Rattle.ados_change.specs.Conditions.{CanMake, CanRemove, CanRename};
 ghost use Rattle.ados_change.specs.Kinds.{Makes};
 ghost use Rattle.ados_volume.specs.Refused.{RefusesEntry};
@@ -17,7 +17,7 @@ ghost use Rattle.ados_volume.specs.steps.Listed.{AreListed};
 
 use crate::cache::NameCache;
 use crate::examine::name_in;
-use crate::told::ToldCache;
+use crate::listed_cache::ListedCache;
 use crate::volume::Volume;
 use crate::walk::parent_in;
 use adf_block::Image;
@@ -46,12 +46,12 @@ impl Volume {
     {
         self.places.clear();
         let starts = Starts {
-            near: near(&self.image, &self.told, dir, &name),
+            near: near(&self.image, &self.listed, dir, &name),
             free_from: self.free_from,
         };
         let key = create(&mut self.image, dir, &name, kind, moment, starts)?;
         self.names.enter(dir, &name, key);
-        self.told.keep(dir, key);
+        self.listed.keep(dir, key);
         self.free_from = key;
         Ok(key)
     }
@@ -68,7 +68,7 @@ impl Volume {
         ensures dead { KeepsBlock key self.old.image self.new.image }
         ensures validated { self.new.was_validated ≡ self.old.was_validated }
     {
-        forget(&mut self.names, &mut self.told, &self.image, key);
+        forget(&mut self.names, &mut self.listed, &self.image, key);
         self.places.clear();
         remove(&mut self.image, key, moment);
         self.free_from = BOOT_BLOCKS;
@@ -83,10 +83,10 @@ impl Volume {
         ensures stands { (t : Tree) → Stands self.old.image t → Stands self.new.image (renamed moment key dir name t) }
         ensures keeps { KeepsRest self.old.image self.new.image }
         ensures none { TakesNone self.old.image self.new.image }
-        ensures behind { KeepsBehindName key name self.old.image self.new.image }
+        ensures behind { KeepsAfterName key name self.old.image self.new.image }
         ensures validated { self.new.was_validated ≡ self.old.was_validated }
     {
-        forget(&mut self.names, &mut self.told, &self.image, key);
+        forget(&mut self.names, &mut self.listed, &self.image, key);
         self.places.clear();
         rename(&mut self.image, key, dir, &name, moment);
     }
@@ -94,12 +94,12 @@ impl Volume {
 
 /// Where the search for the end of a name's hash chain starts: at the entry of the directory that was listed or made last, if it is in
 /// the chain, and else at the directory.
-fn near(image: &Image, told: &ToldCache, dir: u32, name: &Name) -> u32
+fn near(image: &Image, listed: &ListedCache, dir: u32, name: &Name) -> u32
     requires tree { HasTree image.now }
-    requires told { AreListed image.now told.now.entries.entries }
+    requires listed { AreListed image.now listed.now.entries.entries }
     ensures { (t : Tree) → Stands image.now t → IsNear dir (in_slot t dir (slot name.now)) result }
 {
-    let Some(last) = told.last(dir) else {
+    let Some(last) = listed.last(dir) else {
         return dir;
     };
     if name_in(image, last).slot() == name.slot() {
@@ -111,14 +111,14 @@ fn near(image: &Image, told: &ToldCache, dir: u32, name: &Name) -> u32
 
 /// Removes an object from the cache of names, whose hash slots do not count as whole any more, and clears the cache of
 /// listed entries.
-fn forget(names: &mut NameCache, told: &mut ToldCache, image: &Image, key: u32)
+fn forget(names: &mut NameCache, listed: &mut ListedCache, image: &Image, key: u32)
     requires tree { HasTree image.now }
     requires key { HasKey image.now key }
     ensures names { Forgets image.now key names.old.pairs names.new.pairs }
     ensures whole { names.new.whole.keys ≡ [] }
-    ensures told { told.new.entries.entries ≡ [] }
+    ensures listed { listed.new.entries.entries ≡ [] }
 {
-    told.clear();
+    listed.clear();
     names.forget_whole();
     if let Some(dir) = parent_in(image, key) {
         names.take_out(dir, &name_in(image, key));

@@ -10,7 +10,7 @@ ghost use Rattle.ados_chain.specs.Look.{first_left};
 ghost use Rattle.ados_volume.specs.Order.{IsPlaceIn};
 ghost use Rattle.ados_volume.specs.steps.Listed.{AreListed};
 
-use crate::told::ToldCache;
+use crate::listed_cache::ListedCache;
 use crate::volume::Volume;
 use adf_block::Image;
 use adf_block::layout::{FILE_TYPE, SECONDARY_TYPE};
@@ -83,9 +83,9 @@ impl Volume {
         ensures next { (t : Tree) → Stands self.old.image t → result ≡ first_left (entries_after t dir key) }
         ensures same { self.new ≡ self.old }
     {
-        let next = next_in(&self.image, &self.told, dir, key);
+        let next = next_in(&self.image, &self.listed, dir, key);
         if let Next::Entry(entry) = next {
-            self.told.keep(dir, entry);
+            self.listed.keep(dir, entry);
         }
         next
     }
@@ -113,13 +113,13 @@ impl Volume {
 }
 
 /// What follows a key in the order of a directory. The cache has known entries of some directories.
-fn next_in(image: &Image, told: &ToldCache, dir: u32, key: u32) -> Next
+fn next_in(image: &Image, listed: &ListedCache, dir: u32, key: u32) -> Next
     requires tree { HasTree image.now }
     requires dir { HasDirectory image.now dir }
-    requires told { AreListed image.now told.now.entries.entries }
+    requires listed { AreListed image.now listed.now.entries.entries }
     ensures { (t : Tree) → Stands image.now t → result ≡ first_left (entries_after t dir key) }
 {
-    if told.is_last(dir, key) {
+    if listed.is_last(dir, key) {
         next_at(image, dir, key)
     } else {
         after(image, dir, key)

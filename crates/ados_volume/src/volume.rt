@@ -5,8 +5,8 @@ ghost use Rattle.ados_model.specs.Tree.{Tree};
 ghost use Rattle.ados_model.specs.Stands.{Stands};
 
 use crate::cache::NameCache;
+use crate::listed_cache::ListedCache;
 use crate::places::PlaceCache;
-use crate::told::ToldCache;
 use adf_block::Image;
 use adf_block::layout::BOOT_BLOCKS;
 use std::marker::Model;
@@ -21,7 +21,7 @@ pub struct Volume {
     was_validated: bool,
     pub(crate) names: NameCache,
     pub(crate) places: PlaceCache,
-    pub(crate) told: ToldCache,
+    pub(crate) listed: ListedCache,
     /// No block below this one is free.
     pub(crate) free_from: u32,
 }
@@ -35,7 +35,7 @@ impl Model for Volume {
     ghost view = { λ volume. record { image = volume.image; was_validated = volume.was_validated } };
 
     ghost invariant = { λ volume. IsSoundVolume volume.image volume.names.pairs volume.names.whole
-        volume.told.entries.entries volume.places.places.entries volume.free_from };
+        volume.listed.entries.entries volume.places.places.entries volume.free_from };
 }
 
 impl Volume {
@@ -45,13 +45,13 @@ impl Volume {
         was_validated: bool,
         names: NameCache,
         places: PlaceCache,
-        told: ToldCache,
+        listed: ListedCache,
     ) -> Volume
         requires stands { (t : Tree) × Stands image t }
         requires no_names { names.pairs.entries ≡ [] }
         requires no_slots { names.whole.keys ≡ [] }
         requires no_places { places.places.entries ≡ [] }
-        requires no_entries { told.entries.entries ≡ [] }
+        requires no_entries { listed.entries.entries ≡ [] }
         ensures image { result.image ≡ image }
         ensures validated { result.was_validated ≡ was_validated }
     {
@@ -60,7 +60,7 @@ impl Volume {
             was_validated,
             names,
             places,
-            told,
+            listed,
             free_from: BOOT_BLOCKS,
         }
     }

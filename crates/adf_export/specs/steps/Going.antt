@@ -8,8 +8,8 @@ use Rattle.adf_io.specs.Prefix.{Writes}
 use Rattle.adf_script.specs.Text.{spaced}
 use Rattle.adf_export.specs.declared.listing.Listing.{Listing}
 use Rattle.ados_volume.specs.Located.{Located}
-use Rattle.adf_words.specs.declared.query.ListForm.{ListForm}
-use Rattle.adf_words.specs.declared.query.ListOrder.{ListOrder}
+use Rattle.adf_cli.specs.declared.query.ListForm.{ListForm}
+use Rattle.adf_cli.specs.declared.query.ListOrder.{ListOrder}
 use Rattle.adf_record.specs.Second.{to_second}
 use Rattle.adf_export.specs.Listing.{listed, AreEntries, IsEntry, IsLine, IsLongLine, head, shown}
 use Rattle.adf_export.specs.steps.Levels.{IsSoFar, work}

@@ -3,7 +3,7 @@ use Rattle.std.specs.Prelude.{◌≡◌, ℕ, suc, ◌+◌, ◌*◌, ◌≤◌, 
 use Rattle.ados_model.specs.Keys.{HasKey}
 use Rattle.ados_model.specs.Tree.{Tree, LeadsToRoot, name_of, parent_of}
 use Rattle.ados_model.specs.Change.{is_file}
-use Rattle.adf_words.specs.declared.query.ListOrder.{ListOrder}
+use Rattle.adf_cli.specs.declared.query.ListOrder.{ListOrder}
 use Rattle.adf_export.specs.declared.listing.Level.{Level}
 use Rattle.ados_volume.specs.Located.{Located}
 use Rattle.adf_export.specs.Listing.{below, front, front_above, listed}

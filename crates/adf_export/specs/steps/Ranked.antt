@@ -5,7 +5,7 @@ use Rattle.std.specs.Cmp.Lexicographic.{slice_cmp}
 use Rattle.std.specs.declared.cmp.Ordering.{Ordering}
 use Rattle.ados_name.specs.Name.{upper}
 use Rattle.ados_model.specs.Tree.{Tree, name_of}
-use Rattle.adf_words.specs.declared.query.ListOrder.{ListOrder}
+use Rattle.adf_cli.specs.declared.query.ListOrder.{ListOrder}
 use Rattle.adf_export.specs.declared.order.Rank.{Rank}
 use Rattle.adf_export.specs.Ordered.{weight_of}
 

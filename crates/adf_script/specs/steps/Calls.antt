@@ -4,10 +4,10 @@ use Rattle.ados_model.specs.declared.packet.Packet.{Packet}
 use Rattle.ados_model.specs.declared.answer.Answer.{Answer}
 use Rattle.ados_port.specs.History.{PortState, ServerMeaning}
 use Rattle.ados_port.specs.Gives.{StepGives}
-use Rattle.ados_port.specs.Step.TheVariants.{Put, Serve, Take}
-use Rattle.ados_port.specs.Outcome.TheVariants.{Accepted, Refused, Served, Taken}
-use Rattle.ados_port.specs.PutRefused.{PutRefused}
-use Rattle.ados_port.specs.Reply.{Reply}
+use Rattle.ados_port.specs.declared.step.Step.TheVariants.{Put, Serve, Take}
+use Rattle.ados_port.specs.declared.step.Outcome.TheVariants.{Accepted, Refused, Served, Taken}
+use Rattle.ados_port.specs.declared.step.PutRefused.{PutRefused}
+use Rattle.ados_port.specs.declared.step.Reply.{Reply}
 
 -- a port with one client, which has taken a reply for each accepted packet
 abbrev pub quiet_port : {S : Type 0} → S → ℕ → PortState S Packet Answer

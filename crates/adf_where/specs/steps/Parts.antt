@@ -4,16 +4,15 @@ use Rattle.json.specs.Token.{Token, begin_array, begin_object, boolean, end_arra
 use Rattle.json.specs.Print.{print}
 use Rattle.ados_census.specs.declared.place.Place.{Place}
 use Rattle.ados_model.specs.Tree.{Tree}
-use Rattle.ados_model.specs.declared.fault.VolumeFault.{VolumeFault}
 use Rattle.ados_volume.specs.declared.owner.Owner.{Owner}
 use Rattle.adf_io.specs.declared.printing.PrintFault.{PrintFault}
 use Rattle.adf_io.specs.declared.printing.PrintFault.TheVariants.{Write}
 use Rattle.adf_where.specs.declared.faulty.FaultyBlock.{FaultyBlock}
 use Rattle.adf_where.specs.declared.where_fault.WhereFault.{WhereFault}
 use Rattle.adf_where.specs.declared.where_fault.WhereFault.TheVariants.{Memory, Output}
-use Rattle.adf_where.specs.Faulty.{block_line, block_lines, fault_line, faults_tokens, faulty_tokens, first_line, more_line, place_object, place_words}
+use Rattle.adf_where.specs.Faulty.{behind_lines, block_line, block_lines, faults_tokens, faulty_tokens, first_line, place_object, place_words}
 use Rattle.adf_where.specs.Refused.{fault_reason, refused_line}
-use Rattle.adf_where.specs.Where.{AreTold, Told, array_of, place_tokens, where_of}
+use Rattle.adf_where.specs.Where.{AreTold, Told, array_of, place_tokens, unread_tokens, where_of}
 
 -- what is before the elements, and what is behind them
 abbrev pub opening : Bool → List ℕ
@@ -35,9 +34,9 @@ abbrev pub part : {A : Type 0} → Bool → Bool → (A → List Token) → (A �
 part json first tokens lines one = comma json first ++ element json tokens lines one
 
 -- the text tells of these blocks, by the owners of all blocks
-pub record IsTextOf (json : Bool) (t : Tree) (owners : List Owner) (blocks text : List ℕ) : Type 0 where
+pub record IsTextOf (json : Bool) (unread : List Bool) (t : Tree) (owners : List Owner) (blocks text : List ℕ) : Type 0 where
   pub told : List Told
-  pub are_told : AreTold t owners blocks told
+  pub are_told : AreTold t unread owners blocks told
   pub text_is : text ≡ where_of json t.blocks told
 
 -- the object of something that is refused, up to the reason
@@ -76,12 +75,12 @@ abbrev pub place_part : Bool → Bool → ℕ → ℕ → Place → List ℕ
 place_part json first blocks block place = part json first place_object (λ one. block_line blocks block (place_words one)) place
 
 -- what is told of it behind its places
-abbrev pub tail_tokens : List VolumeFault → Bool → List Token
-tail_tokens faults more = end_array ∷ faults_tokens faults ++ key (codes "more") ∷ boolean more ∷ end_object ∷ []
+abbrev pub tail_tokens : FaultyBlock → List Token
+tail_tokens told =
+    end_array ∷ faults_tokens told.faults.now ++ key (codes "more") ∷ boolean told.more ∷ (unread_tokens told.unread ++ end_object ∷ [])
 
 abbrev pub tail_part : Bool → FaultyBlock → List ℕ
-tail_part json told =
-    if json then print (tail_tokens told.faults.now told.more) else flat_map fault_line told.faults.now ++ more_line told.more told.block
+tail_part json told = if json then print (tail_tokens told) else behind_lines told
 
 -- why a text is not written whole
 abbrev pub where_fault : PrintFault → WhereFault

@@ -1,7 +1,7 @@
 -- The places of a client's list of replies, and the effect of a put and a take on a client.
 use Rattle.std.specs.Prelude.{◌≡◌, ◌⊎◌, ℕ, ◌+◌, [], ◌∷◌}
 use Rattle.std.specs.VecDeque.{deque_len, deque_capacity}
-use Rattle.port_ends.specs.declared.step.Reply.{Reply}
+use Rattle.ados_port.specs.declared.step.Reply.{Reply}
 use Rattle.ados_port.specs.declared.counts.Client.{Client}
 
 -- the number of places in its list of replies

@@ -4,7 +4,7 @@ use Rattle.std.specs.declared.alloc.Global.{Global}
 use Rattle.ados_name.specs.declared.stamp.Date3.{Date3}
 use Rattle.ados_model.specs.declared.packet.Packet.{Packet}
 use Rattle.ados_model.specs.declared.answer.Answer.{Answer}
-use Rattle.ados_port.specs.Reply.{Reply}
+use Rattle.ados_port.specs.declared.step.Reply.{Reply}
 use Rattle.ados_port.specs.Lawful.{Lawful}
 use Rattle.ados_port.specs.Ends.{ClientView, CloseMeansDeath, HandlerView}
 use Rattle.ados_port.specs.Gathering.{all_lists}

@@ -7,16 +7,16 @@ use Rattle.adf_archive.proofs.running.check_each.Goals as goal
 
 pub loop-done-init : goal.loop-done-init
 loop-done-init g c =
-    (omega arith, so_far_none g.C.Fn c.args.report.now c.args.manner.form (map string_bytes c.args.paths.now) (g.W.Write.contents c.args.writer.now) c.new-tally.result c.new-tally.ensures)
+    (omega arith, so_far_none g.C.Fn c.args.report.now c.args.settings.form (map string_bytes c.args.paths.now) (g.W.Write.contents c.args.writer.now) c.new-tally.result c.new-tally.ensures)
 
 pub loop-done-preserved : goal.loop-done-preserved
 loop-done-preserved g c =
     let paths : List (List ℕ) = map string_bytes c.args.paths.now in
-    let written : Appends (g.W.Write.contents c.loop-done.writer) (g.W.Write.contents c.tell_reports.new.writer) (told_from c.args.manner.form paths c.loop-done.done c.in_ok-reports.reports.items) =
-    subst (λ (rs : List ImageReport). Appends (g.W.Write.contents c.loop-done.writer) (g.W.Write.contents c.tell_reports.new.writer) (told_from c.args.manner.form paths c.loop-done.done rs))
+    let written : Appends (g.W.Write.contents c.loop-done.writer) (g.W.Write.contents c.tell_reports.new.writer) (told_from c.args.settings.form paths c.loop-done.done c.in_ok-reports.reports.items) =
+    subst (λ (rs : List ImageReport). Appends (g.W.Write.contents c.loop-done.writer) (g.W.Write.contents c.tell_reports.new.writer) (told_from c.args.settings.form paths c.loop-done.done rs))
     c.deref.ensures.value c.in_ok-tell_reports.ensures.ok in (
       omega (arith, c.min-count.ensures, c.loop-done-test.true),
-      so_far_more g.C.Fn c.args.report.now c.args.manner.form paths (g.W.Write.contents c.args.writer.now) (g.W.Write.contents c.loop-done.writer) (g.W.Write.contents c.tell_reports.new.writer)
+      so_far_more g.C.Fn c.args.report.now c.args.settings.form paths (g.W.Write.contents c.args.writer.now) (g.W.Write.contents c.loop-done.writer) (g.W.Write.contents c.tell_reports.new.writer)
           c.loop-done.done c.min-count.result c.loop-done.tally c.loop-done.invariant.1 c.in_ok-reports.reports.items (gives_places g.C.Fn c.args.report.now c.loop-done.done c.min-count.result c.in_ok-places.places.items c.in_ok-reports.reports.items c.in_ok-places.ensures
           (omega (arith, c.in_ok-reports.reports.ok.0, c.in_ok-places.places.ok.0, c.in_ok-reports.ensures.len, ap length c.in_ok-places.ensures, length-range_with_len c.loop-done.done c.min-count.result)) c.in_ok-reports.ensures.each)
           c.add.new.self written (c.add.ensures ∙ ap (tallied c.loop-done.tally) c.deref-in-loop-done-2.ensures.value),
@@ -25,11 +25,11 @@ loop-done-preserved g c =
 pub returns-in_err-tell_reports-clause-fault : goal.returns-in_err-tell_reports-clause-fault
 returns-in_err-tell_reports-clause-fault g c =
     let paths : List (List ℕ) = map string_bytes c.args.paths.now in
-    let front : WritesFront (g.W.Write.contents c.loop-done.writer) (g.W.Write.contents c.tell_reports.new.writer) (told_from c.args.manner.form paths c.loop-done.done c.in_ok-reports.reports.items) =
-    subst (λ (rs : List ImageReport). WritesFront (g.W.Write.contents c.loop-done.writer) (g.W.Write.contents c.tell_reports.new.writer) (told_from c.args.manner.form paths c.loop-done.done rs))
+    let front : WritesFront (g.W.Write.contents c.loop-done.writer) (g.W.Write.contents c.tell_reports.new.writer) (told_from c.args.settings.form paths c.loop-done.done c.in_ok-reports.reports.items) =
+    subst (λ (rs : List ImageReport). WritesFront (g.W.Write.contents c.loop-done.writer) (g.W.Write.contents c.tell_reports.new.writer) (told_from c.args.settings.form paths c.loop-done.done rs))
     c.deref.ensures.value c.in_err-tell_reports.ensures.front in
     at_err c.from_residual-in_err-tell_reports.result
-    (so_far_front g.C.Fn c.args.report.now c.args.manner.form paths (g.W.Write.contents c.args.writer.now) (g.W.Write.contents c.loop-done.writer) (g.W.Write.contents c.tell_reports.new.writer)
+    (so_far_front g.C.Fn c.args.report.now c.args.settings.form paths (g.W.Write.contents c.args.writer.now) (g.W.Write.contents c.loop-done.writer) (g.W.Write.contents c.tell_reports.new.writer)
     c.loop-done.done c.min-count.result c.loop-done.tally c.loop-done.invariant.1 c.in_ok-reports.reports.items (gives_places g.C.Fn c.args.report.now c.loop-done.done c.min-count.result c.in_ok-places.places.items c.in_ok-reports.reports.items c.in_ok-places.ensures
     (omega (arith, c.in_ok-reports.reports.ok.0, c.in_ok-places.places.ok.0, c.in_ok-reports.ensures.len, ap length c.in_ok-places.ensures, length-range_with_len c.loop-done.done c.min-count.result)) c.in_ok-reports.ensures.each) front
     (omega (arith, c.min-count.ensures, c.loop-done-test.true, length-map c.args.paths.now string_bytes)))
@@ -37,14 +37,14 @@ returns-in_err-tell_reports-clause-fault g c =
 pub returns-in_err-reports-clause-fault : goal.returns-in_err-reports-clause-fault
 returns-in_err-reports-clause-fault g c =
     let so = c.loop-done.invariant.1 in
-    let told : List ℕ = told_from c.args.manner.form (map string_bytes c.args.paths.now) 0 so.reports in
+    let told : List ℕ = told_from c.args.settings.form (map string_bytes c.args.paths.now) 0 so.reports in
     at_err c.from_residual-in_err-reports.result
     (c.loop-done.done, so.reports, omega (arith, c.loop-done.invariant.0, length-map c.args.paths.now string_bytes), so.gives, (told, so.written, ([], sym (append-nil told))))
 
 pub returns-in_err-places-clause-fault : goal.returns-in_err-places-clause-fault
 returns-in_err-places-clause-fault g c =
     let so = c.loop-done.invariant.1 in
-    let told : List ℕ = told_from c.args.manner.form (map string_bytes c.args.paths.now) 0 so.reports in
+    let told : List ℕ = told_from c.args.settings.form (map string_bytes c.args.paths.now) 0 so.reports in
     at_err c.from_residual.result
     (c.loop-done.done, so.reports, omega (arith, c.loop-done.invariant.0, length-map c.args.paths.now string_bytes), so.gives, (told, so.written, ([], sym (append-nil told))))
 

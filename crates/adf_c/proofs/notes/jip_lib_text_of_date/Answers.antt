@@ -2,7 +2,7 @@ use Rattle.std.proofs.Common.{ℕ, List, inl, refl, subst}
 use Rattle.std.specs.String.{string_bytes}
 use Rattle.ados_name.specs.Date.{IsTextOf}
 use Rattle.ados_name.specs.declared.stamp.Date3.{Date3}
-use Rattle.c_values.specs.Buffers.{Puts}
+use Rattle.adf_c.specs.Buffers.{Puts}
 use Rattle.adf_c.proofs.notes.jip_lib_text_of_date.Goals as goal
 
 pub returns-in-Ok : goal.returns-in-Ok

@@ -1,8 +1,8 @@
 use Rattle.std.proofs.Common.{ℕ, List, inl, refl, subst}
 use Rattle.std.specs.String.{string_bytes}
 use Rattle.ados_name.specs.declared.stamp.Date3.{Date3}
-use Rattle.c_values.specs.Names.{IsNoteOf}
-use Rattle.c_values.specs.Buffers.{Puts}
+use Rattle.adf_c.specs.Names.{IsNoteOf}
+use Rattle.adf_c.specs.Buffers.{Puts}
 use Rattle.adf_c.proofs.notes.jip_lib_uaem_line.Goals as goal
 
 pub returns-in-Ok : goal.returns-in-Ok

@@ -1,5 +1,5 @@
 use Rattle.std.proofs.Common.{◌≡◌, rules, inl, refl, ap, ◌∙◌}
-use Rattle.c_values.specs.Telling.{buffer_after}
+use Rattle.adf_c.specs.Answers.{buffer_after}
 use Rattle.adf_c.specs.Spelling.{packet_of}
 use Rattle.adf_c.proofs.Coming.{serves}
 use Rattle.adf_c.proofs.serve.jip_lib_serve.Goals as goal

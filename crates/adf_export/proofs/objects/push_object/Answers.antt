@@ -1,5 +1,5 @@
 use Rattle.adf_export.proofs.Common.{◌≡◌, ℕ, ◌++◌, List, refl, ap₂, ◌∙◌, string_bytes, on_ok_weaker, PushesEntry}
-use Rattle.adf_words.specs.declared.query.ListForm.TheVariants.{Json}
+use Rattle.adf_cli.specs.declared.query.ListForm.TheVariants.{Json}
 use Rattle.adf_export.specs.Objects.{object_line}
 use Rattle.adf_export.proofs.objects.push_object.Goals as goal
 

@@ -1,4 +1,4 @@
-use Rattle.std.proofs.Common.{sym, subst}
+use Rattle.std.proofs.Common.{ℕ, sym, subst}
 use Rattle.adf_import.proofs.Common.{Shown, IsReady, KeepsKeys, HasDirectory}
 use Rattle.adf_import.proofs.Keeping.{keeps_both, keeps_same}
 use Rattle.adf_import.proofs.adding.add.Goals as goal
@@ -7,25 +7,19 @@ pub loop-entry-init : goal.loop-entry-init
 loop-entry-init g c = record {
   ready = record {
     dir = subst (λ (v : Shown). HasDirectory v.image c.in_ok-top.top) (sym c.directory.ensures.same) c.in_ok-top.ensures.directory;
-    progress = c.in_ok-progress.ensures c.directory.new.volume.image;
+    progress = c.in_ok-new-2.ensures c.directory.new.volume.image;
   };
   keeps = keeps_same c.directory.new.volume.image;
 }
 
-pub child-requires : goal.child-requires
-child-requires g c = (c.directory-dir.ensures c.loop-entry.volume.image c.loop-entry.invariant.ready).dir
-
-pub put_item-requires : goal.put_item-requires
-put_item-requires g c =
-    subst (λ (v : Shown). IsReady v.image c.directory-dir.result c.loop-entry.progress) (sym c.child.ensures.same) (c.directory-dir.ensures c.loop-entry.volume.image c.loop-entry.invariant.ready)
-
 pub loop-entry-preserved : goal.loop-entry-preserved
 loop-entry-preserved g c =
-    let kept : KeepsKeys c.loop-entry.volume.image c.put_item.new.volume.image =
-    subst (λ (v : Shown). KeepsKeys v.image c.put_item.new.volume.image) c.child.ensures.same c.in_ok-put_item.ensures.keeps in
+    let put = c.in_ok-add_entry.ensures.put in
+    let ready : IsReady c.add_entry.new.volume.image c.loop-entry.adding.top c.add_entry.new.adding.progress =
+    record { dir = put.keeps.directory c.loop-entry.adding.top c.loop-entry.invariant.ready.dir; progress = put.progress } in
     record {
-      ready = record { dir = kept.directory c.in_ok-top.top c.loop-entry.invariant.ready.dir; progress = c.in_ok-put_item.ensures.progress };
-      keeps = keeps_both c.directory.new.volume.image c.loop-entry.volume.image c.put_item.new.volume.image c.loop-entry.invariant.keeps kept;
+      ready = subst (λ (top : ℕ). IsReady c.add_entry.new.volume.image top c.add_entry.new.adding.progress) (sym c.in_ok-add_entry.ensures.top) ready;
+      keeps = keeps_both c.directory.new.volume.image c.loop-entry.volume.image c.add_entry.new.volume.image c.loop-entry.invariant.keeps put.keeps;
     }
 
 pub returns : goal.returns

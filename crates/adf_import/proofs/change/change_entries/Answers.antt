@@ -1,6 +1,6 @@
 use Rattle.std.proofs.Common.{Bor, List, ℕ, [], ◌∷◌, map, sym, subst}
 use Rattle.adf_import.proofs.Common.{chars, Date3, EndsAt, EndsInTurn, ReadsFirst}
-use Rattle.adf_words.specs.declared.change.Change.{Change}
+use Rattle.adf_cli.specs.declared.change.Change.{Change}
 use Rattle.adf_import.specs.Commands.{ChangesVolume, Dates, Deletes, MakesWith}
 use Rattle.adf_import.proofs.Turning.{text_of}
 use Rattle.adf_import.proofs.change.change_entries.Goals as goal

@@ -1,4 +1,4 @@
-use Rattle.adf_import.proofs.Fronts.{last_made, way_made}
+use Rattle.adf_import.proofs.MissingAbove.{last_made, way_made}
 use Rattle.adf_import.proofs.ways.make_way.Goals as goal
 
 pub returns-in-Err : goal.returns-in-Err

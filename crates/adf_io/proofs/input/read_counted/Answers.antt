@@ -1,5 +1,5 @@
 use Rattle.std.proofs.Common.{ap, refl, arith}
-use Rattle.adf_io.proofs.Fronts.{as_fault, counted_short, counted_rest, no_end_behind}
+use Rattle.adf_io.proofs.Inputs.{as_fault, counted_short, counted_rest, no_end_behind}
 use Rattle.adf_io.proofs.input.read_counted.Goals as goal
 
 pub returns-then-len-most-clause-bytes : goal.returns-then-len-most-clause-bytes

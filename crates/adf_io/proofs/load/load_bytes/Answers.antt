@@ -1,5 +1,5 @@
 use Rattle.std.proofs.Common.{arith, refl}
-use Rattle.adf_io.proofs.Fronts.{kept_within, reads_whole, refused_more}
+use Rattle.adf_io.proofs.Inputs.{kept_within, reads_whole, refused_more}
 use Rattle.adf_io.proofs.load.load_bytes.Goals as goal
 
 pub returns-then-input-gt0-clause-err : goal.returns-then-input-gt0-clause-err

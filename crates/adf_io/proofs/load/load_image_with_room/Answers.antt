@@ -1,5 +1,5 @@
 use Rattle.std.proofs.Common.{ap}
-use Rattle.adf_io.proofs.Fronts.{refused_all}
+use Rattle.adf_io.proofs.Inputs.{refused_all}
 use Rattle.adf_io.proofs.load.load_image_with_room.Goals as goal
 
 pub returns-in-Err-clause-err : goal.returns-in-Err-clause-err

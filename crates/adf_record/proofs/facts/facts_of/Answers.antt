@@ -21,4 +21,5 @@ returns c = λ t s.
       created = c.root_date.ensures t s ∙ s.root_fields.creation_date;
       changed = c.root_date-2.ensures t s ∙ s.root_fields.disk_date;
       boot = subst (λ (bytes : List ℕ). IsBootCode bytes c.boot_code.result) same c.boot_code.ensures;
+      lost = c.in_ok-lost.ensures t s;
     }

@@ -5,5 +5,5 @@ use Rattle.adf_rescue.proofs.rescue_object.put_entry.Goals as goal
 pub returns-clause-tokens : goal.returns-clause-tokens
 returns-clause-tokens c =
     on_ok_weaker c.end_object.result
-    (λ last. last ∙ simp (c.in_ok-put_flag-2.ensures.tokens, c.in_ok-put_number.ensures.tokens, c.in_ok-put_flag.ensures.tokens, c.in_ok-put_text-2.ensures.tokens, c.in_ok-put_text.ensures.tokens, c.in_ok-begin_object.ensures.ok, c.state_word.ensures, c.from.ensures, c.missing.ensures, c.is_cut.ensures, append_assoc))
+    (λ last. last ∙ simp (c.in_ok-put_holes.ensures.tokens, c.in_ok-put_detail.ensures.tokens, c.in_ok-put_state.ensures.tokens, c.in_ok-begin_object.ensures.ok, append_assoc))
     c.end_object.ensures.ok

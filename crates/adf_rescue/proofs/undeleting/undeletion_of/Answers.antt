@@ -1,5 +1,5 @@
 use Rattle.std.proofs.Common.{◌≡◌, ℕ, Bor, List, Option, map, ap, ◌∙◌, subst}
-use Rattle.ados_sound.specs.declared.deleted.Deleted.{Deleted}
+use Rattle.ados_salvage.specs.declared.known.deleted.Deleted.{Deleted}
 use Rattle.adf_rescue.specs.declared.chosen.Chosen.{Chosen}
 use Rattle.adf_rescue.specs.declared.placing.Placed.{Placed}
 use Rattle.adf_rescue.specs.steps.Asking.{AreAsked}
@@ -30,5 +30,6 @@ returns-clause-done c = λ image read is trusted found.
           ∙ ap (λ (placed : List Placed). deleted_text c.args.job.now.json positions (map seen_place placed) c.deref-9.result.now) c.deref-8.ensures.value
           ∙ ap (λ (chosen : List Chosen). deleted_text c.args.job.now.json positions (map seen_place c.in_ok-places.places.items) chosen) c.deref-9.ensures.value
           ∙ ap (λ (seen : List Place). deleted_text c.args.job.now.json positions seen c.in_ok-chosen.chosen.items) places;
-      files = c.in_ok-plan.ensures ∙ ap (files_saved c.args.job.now.force) c.deref-10.ensures.value;
+      files = c.in_ok-plan.ensures.files ∙ ap (files_saved c.args.job.now.force) c.deref-10.ensures.value;
+      paths = c.in_ok-plan.ensures.paths;
     }

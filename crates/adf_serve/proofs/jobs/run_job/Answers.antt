@@ -1,5 +1,5 @@
 use Rattle.std.proofs.Common.{subst, sym}
-use Rattle.adf_words.specs.declared.job.ImageJob.{ImageJob}
+use Rattle.adf_cli.specs.declared.job.ImageJob.{ImageJob}
 use Rattle.adf_serve.specs.Commands.{DoesJob}
 use Rattle.adf_serve.proofs.jobs.run_job.Goals as goal
 

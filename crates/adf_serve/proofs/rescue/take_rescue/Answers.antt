@@ -6,5 +6,8 @@ use Rattle.adf_serve.proofs.rescue.take_rescue.Goals as goal
 pub returns-in_err-image : goal.returns-in_err-image
 returns-in_err-image g c =
     let job = c.args.job.now in
-    reports_no_image (IsRescueText job.json) IsSomeSize (λ (fault : CommandFault). IsHostEnd fault job.list) _ c.in_err-image.field-0.0 _ (λ bytes refusal size. (bytes, size)) (host_ends job.list) c.in_err-image.ensures
+    reports_no_image (IsRescueText job) IsSomeSize (λ (fault : CommandFault). IsHostEnd fault job.list) _ c.in_err-image.field-0.0 _ (λ bytes refusal size. (bytes, size)) (host_ends job.list) c.in_err-image.ensures.fault
     c.from_residual.ensures.1
+
+pub returns : goal.returns
+returns g c = c.tell_rescue.ensures c.in_ok-image.holes.items c.in_ok-image.image c.in_ok-image.ensures.holes c.in_ok-rescue.ensures.told

@@ -1,5 +1,5 @@
 use Rattle.std.proofs.Common.{subst}
-use Rattle.ados_mend.specs.Answer.{IsReason, Validates}
+use Rattle.ados_validate.specs.Answer.{IsReason, Validates}
 use Rattle.adf_serve.proofs.Bitmaps.{refused_as}
 use Rattle.adf_serve.proofs.validate.anew.Goals as goal
 

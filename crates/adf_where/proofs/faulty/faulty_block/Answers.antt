@@ -16,4 +16,5 @@ returns c = λ blocks are named.
       root = ap (λ (root : ℕ). block == root) c.root.ensures;
       places = c.places.ensures c.args.image.now blocks are named;
       faults = faults_there c.args.image.now block c.args.found.now c.faults_at.result.now c.requires kept;
+      unread_is = c.unread_of.ensures;
     }

@@ -8,5 +8,6 @@ returns-clause-tokens c =
     behind c.args.writer.now.tokens _ _ _ _ c.in_ok-end_array.ensures.ok
     (behind c.end_array.new.self.tokens _ _ _ _ c.in_ok-key.ensures.ok
     (behind c.key.new.self.tokens _ _ _ _ c.in_ok-put_array.ensures.tokens
-    (behind c.put_array.new.writer.tokens _ _ _ _ c.in_ok-put_flag.ensures.tokens last))))
+    (behind c.put_array.new.writer.tokens _ _ _ _ c.in_ok-put_flag.ensures.tokens
+    (behind c.put_flag.new.writer.tokens _ _ _ _ c.in_ok-put_unread.ensures.tokens last)))))
     c.end_object.ensures.ok

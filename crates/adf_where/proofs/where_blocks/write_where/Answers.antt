@@ -13,14 +13,14 @@ returns-in-Ok-write_owned-clause-ok g c = λ t s.
     let image = c.args.volume.now.image in
     let count = c.blocks-count.ensures.count ∙ ap block_count c.image.ensures.same ∙ count_same image t s in
     let are = subst (AreOwners image t) (sym c.deref.ensures.value) (c.in_ok-owners.ensures t s) in
-    let named = subst (AreNamed t.blocks c.args.words.now) (sym c.deref-2.ensures.value) (subst (λ (n : ℕ). AreNamed n c.args.words.now c.in-Ok.blocks.items) count c.in-Ok.ensures.named) in
-    writes_where c.args.json image t c.args.words.now c.deref-2.result.now c.deref.result.now named are _ _ (c.in-Ok-write_owned.ensures.ok t s)
+    let named = subst (AreNamed t.blocks c.args.asking.words.now) (sym c.deref-2.ensures.value) (subst (λ (n : ℕ). AreNamed n c.args.asking.words.now c.in-Ok.blocks.items) count c.in-Ok.ensures.named) in
+    writes_where c.args.asking.json c.args.asking.unread.now image t c.args.asking.words.now c.deref-2.result.now c.deref.result.now named are _ _ (c.in-Ok-write_owned.ensures.ok t s)
 
 pub returns-clause-front : goal.returns-clause-front
 returns-clause-front g c = λ t s.
     let image = c.args.volume.now.image in
     let count = c.blocks-count.ensures.count ∙ ap block_count c.image.ensures.same ∙ count_same image t s in
     let are = subst (AreOwners image t) (sym c.deref.ensures.value) (c.in_ok-owners.ensures t s) in
-    let named = subst (AreNamed t.blocks c.args.words.now) (sym c.deref-2.ensures.value) (subst (λ (n : ℕ). AreNamed n c.args.words.now c.in-Ok.blocks.items) count c.in-Ok.ensures.named) in
-    leaves_front (IsWhere c.args.json image t c.args.words.now) _ _ c.in-Err-write_owned.fault c.from.result c.from.ensures
-    (front_where c.args.json image t c.args.words.now c.deref-2.result.now c.deref.result.now named are _ _ (c.in-Err-write_owned.ensures.front t s))
+    let named = subst (AreNamed t.blocks c.args.asking.words.now) (sym c.deref-2.ensures.value) (subst (λ (n : ℕ). AreNamed n c.args.asking.words.now c.in-Ok.blocks.items) count c.in-Ok.ensures.named) in
+    leaves_front (IsWhere c.args.asking.json c.args.asking.unread.now image t c.args.asking.words.now) _ _ c.in-Err-write_owned.fault c.from.result c.from.ensures
+    (front_where c.args.asking.json c.args.asking.unread.now image t c.args.asking.words.now c.deref-2.result.now c.deref.result.now named are _ _ (c.in-Err-write_owned.ensures.front t s))

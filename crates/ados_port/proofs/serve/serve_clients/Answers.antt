@@ -1,5 +1,5 @@
 use Rattle.std.proofs.Common.{◌≡◌, map, sym}
-use Rattle.port_ends.specs.Batches.{LastFoundNothing}
+use Rattle.ados_port.specs.Batches.{LastFoundNothing}
 use Rattle.ados_port.proofs.Growth.{ends_after}
 use Rattle.ados_port.proofs.Joins.{did_alike, first_ok, second_ok}
 use Rattle.ados_port.proofs.serve.serve_clients.Goals as goal

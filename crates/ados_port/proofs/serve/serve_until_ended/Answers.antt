@@ -1,7 +1,7 @@
 use Rattle.std.proofs.Common.{[], ℕ, arith, subst}
-use Rattle.port_ends.specs.Batches.{TakesUpTo}
-use Rattle.port_ends.proofs.Handling.{serves_none}
-use Rattle.port_ends.proofs.Takes.{nothing_last}
+use Rattle.ados_port.specs.Batches.{TakesUpTo}
+use Rattle.ados_port.proofs.Handling.{serves_none}
+use Rattle.ados_port.proofs.Takes.{nothing_last}
 use Rattle.ados_port.proofs.Growth.{some_more, some_offers}
 use Rattle.ados_port.proofs.serve.serve_until_ended.Goals as goal
 

@@ -1,4 +1,4 @@
-use Rattle.port_ends.specs.Batches.{ServesSome}
+use Rattle.ados_port.specs.Batches.{ServesSome}
 use Rattle.ados_port.proofs.serve.serve_until_ended.Given as goal
 
 abbrev pub invariant-loop : goal.invariant-loop

@@ -1,6 +1,6 @@
 use Rattle.std.proofs.Common.{ℕ, ◌+◌, [], ◌∷◌, ◌++◌, drop, arith, sym, ap, subst, ◌∙◌, append_assoc, zero-add}
-use Rattle.port_ends.specs.History.{PortHistory, events_of, queue}
-use Rattle.port_ends.proofs.Closing.{dead-closed, dead-closing}
+use Rattle.ados_port.specs.History.{PortHistory, events_of, queue}
+use Rattle.ados_port.proofs.Closing.{dead-closed, dead-closing}
 use Rattle.ados_port.proofs.Histories.{history_nil, served_length}
 use Rattle.ados_port.proofs.Grows.{grow}
 use Rattle.ados_port.proofs.Joins.{none_left}

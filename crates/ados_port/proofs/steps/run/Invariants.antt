@@ -1,7 +1,7 @@
 use Rattle.std.proofs.Common.{◌≡◌, ◌+◌, ◌≤◌, List, ◌++◌, vec_len, vec_capacity}
 use Rattle.std.specs.VecDeque.{deque_len}
-use Rattle.port_ends.specs.History.{PortHistory}
-use Rattle.port_ends.specs.declared.step.Step.{Step}
+use Rattle.ados_port.specs.History.{PortHistory}
+use Rattle.ados_port.specs.declared.step.Step.{Step}
 use Rattle.ados_port.specs.Exchanges.{CanCount, HasPlacesFor, NoneIsFull, put_count}
 use Rattle.ados_port.proofs.steps.run.Given as goal
 

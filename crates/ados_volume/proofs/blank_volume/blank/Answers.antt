@@ -11,5 +11,5 @@ standing-requires c = record {
   no_names = c.new-names.ensures.pairs;
   no_slots = c.new-names.ensures.whole;
   no_places = c.in_ok-places.ensures;
-  no_entries = c.in_ok-told.ensures;
+  no_entries = c.in_ok-listed.ensures;
 }

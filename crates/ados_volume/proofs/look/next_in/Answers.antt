@@ -5,7 +5,7 @@ use Rattle.ados_volume.proofs.Ordered.{entry_place}
 use Rattle.ados_volume.proofs.look.next_in.Goals as goal
 
 pub next_at-requires-clause-place : goal.next_at-requires-clause-place
-next_at-requires-clause-place c = entry_place c.args.image.now c.args.dir c.args.key (c.requires.told c.args.dir c.args.key (c.if-is_last.ensures refl))
+next_at-requires-clause-place c = entry_place c.args.image.now c.args.dir c.args.key (c.requires.listed c.args.dir c.args.key (c.if-is_last.ensures refl))
 
 pub after-requires : goal.after-requires
 after-requires c =

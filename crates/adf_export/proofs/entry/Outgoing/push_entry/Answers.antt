@@ -1,5 +1,5 @@
 use Rattle.adf_export.proofs.Common.{refl, some_in, HostItem}
-use Rattle.host_trees.specs.declared.items.ItemKind.TheVariants as kinds
+use Rattle.adf_host.specs.declared.trees.items.ItemKind.TheVariants as kinds
 use Rattle.adf_export.proofs.Entries.{alone, source_alone, source_with_note, with_note}
 use Rattle.adf_export.proofs.entry.Outgoing.push_entry.Goals as goal
 

@@ -7,6 +7,6 @@ use Rattle.adf_rescue.proofs.damaged.Rescue.tell.Given as goal
 -- the entries before this one are told
 abbrev pub invariant-loop-place : goal.invariant-loop-place
 invariant-loop-place g l = record {
-  begun : IsBegun (AreParts l.json (take l.place l.self.salvage.entries)) (g.W.Write.contents l.fn.writer) (g.W.Write.contents l.writer) l.text.items;
+  begun : IsBegun (AreParts l.json l.self (take l.place l.self.salvage.entries)) (g.W.Write.contents l.fn.writer) (g.W.Write.contents l.writer) l.text.items;
   after : l.after ≡ are_told (take l.place l.self.salvage.entries);
 }

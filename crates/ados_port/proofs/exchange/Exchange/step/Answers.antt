@@ -1,5 +1,5 @@
 use Rattle.ados_port.proofs.Grows.{history_of_step}
-use Rattle.port_ends.specs.declared.step.Step.TheVariants.{Put, Serve, Take}
+use Rattle.ados_port.specs.declared.step.Step.TheVariants.{Put, Serve, Take}
 use Rattle.ados_port.proofs.exchange.Exchange.step.Goals as goal
 
 pub returns-in-Put-clause-history : goal.returns-in-Put-clause-history

@@ -18,7 +18,7 @@ invariant_of-self c =
     let s = c.self.invariant.tree.1 in
     let can = c.requires t (subst (λ (shown : Shown). Stands shown.image t) c.self.view_is s) in
     forgotten_sound c.self.invariant c.remove.new.image _ (c.remove.ensures.stands t s) c.args.key _ c.forget.ensures.names _ c.forget.ensures.whole (removed_stays t c.args.moment c.args.key can.empty)
-    _ c.forget.ensures.told _ c.clear.ensures _ (below_boot c.remove.new.image)
+    _ c.forget.ensures.listed _ c.clear.ensures _ (below_boot c.remove.new.image)
 
 pub returns-clause-stands : goal.returns-clause-stands
 returns-clause-stands c = λ t s. c.remove.ensures.stands t (subst (λ (shown : Shown). Stands shown.image t) (sym c.self.view_is) s)

@@ -17,7 +17,7 @@ invariant_of-self c =
     let t = c.self.invariant.tree.0 in
     let s = c.self.invariant.tree.1 in
     forgotten_sound c.self.invariant c.rename.new.image _ (c.rename.ensures.stands t s) c.args.key _ c.forget.ensures.names _ c.forget.ensures.whole (renamed_stays t c.args.moment c.args.key c.args.dir c.args.name)
-    _ c.forget.ensures.told _ c.clear.ensures
+    _ c.forget.ensures.listed _ c.clear.ensures
     _ (below_kept c.self.inside.image c.rename.new.image c.self.inside.free_from c.rename.ensures.keeps.kept.size c.rename.ensures.gives_none c.self.invariant.bound)
 
 pub returns-clause-stands : goal.returns-clause-stands

@@ -9,7 +9,7 @@ invariant_of-result c = record {
   tree = c.requires.stands;
   children = none c.args.image c.args.names.pairs c.requires.no_names;
   slots = none_whole c.args.image c.args.names.pairs c.args.names.whole c.requires.no_slots;
-  listed = none_listed c.args.image c.args.told.entries.entries c.requires.no_entries;
+  listed = none_listed c.args.image c.args.listed.entries.entries c.requires.no_entries;
   known = none_known c.args.image c.args.places.places.entries c.requires.no_places;
   bound = below_boot c.args.image;
 }

@@ -1,8 +1,0 @@
-use Rattle.adf_account.specs.steps.Accounting.{IsOwn}
-use Rattle.adf_account.proofs.Marking.{adds_more}
-use Rattle.adf_account.proofs.accounted.mark_entries.Goals as goal
-
-pub loop-entry-preserved : goal.loop-entry-preserved
-loop-entry-preserved c =
-    adds_more (IsOwn c.args.image.now) c.args.entries.now c.loop-entry.entry-index c.entry-item.result c.loop-entry-test.true c.entry-item.is c.args.marks.now.items c.loop-entry.marks.items c.mark_entry.new.marks.items
-    c.loop-entry.invariant c.mark_entry.ensures

@@ -1,7 +1,0 @@
-use Rattle.std.proofs.Common.{take}
-use Rattle.adf_account.specs.Account.{OfOne}
-use Rattle.adf_account.specs.steps.Accounting.{Adds, IsOwn}
-use Rattle.adf_account.proofs.accounted.mark_entries.Given as goal
-
-abbrev pub invariant-loop-entry : goal.invariant-loop-entry
-invariant-loop-entry l = Adds (OfOne (IsOwn l.image) (take l.entry-index l.entries)) l.fn.marks.items l.marks.items

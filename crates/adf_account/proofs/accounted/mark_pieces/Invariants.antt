@@ -1,7 +1,0 @@
-use Rattle.std.proofs.Common.{take}
-use Rattle.adf_account.specs.Account.{OfOne}
-use Rattle.adf_account.specs.steps.Accounting.{Adds, IsPieceBlock}
-use Rattle.adf_account.proofs.accounted.mark_pieces.Given as goal
-
-abbrev pub invariant-loop-piece : goal.invariant-loop-piece
-invariant-loop-piece l = Adds (OfOne IsPieceBlock (take l.piece-index l.pieces)) l.fn.marks.items l.marks.items

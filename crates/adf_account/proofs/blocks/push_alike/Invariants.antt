@@ -1,6 +1,0 @@
-use Rattle.std.proofs.Common.{◌≡◌, ◌++◌, take}
-use Rattle.adf_account.specs.Told.{alike}
-use Rattle.adf_account.proofs.blocks.push_alike.Given as goal
-
-abbrev pub invariant-loop-block : goal.invariant-loop-block
-invariant-loop-block l = l.told.items ≡ l.fn.told.items ++ alike l.part (take l.block-index l.blocks)

@@ -1,6 +1,0 @@
-use Rattle.std.proofs.Common.{◌≡◌, ◌++◌, map, take}
-use Rattle.adf_account.specs.Told.{extension_told}
-use Rattle.adf_account.proofs.blocks.push_extensions.Given as goal
-
-abbrev pub invariant-loop-block : goal.invariant-loop-block
-invariant-loop-block l = l.told.items ≡ l.fn.told.items ++ map (extension_told l.image) (take l.block-index l.blocks)

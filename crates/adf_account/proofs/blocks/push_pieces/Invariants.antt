@@ -1,6 +1,0 @@
-use Rattle.std.proofs.Common.{◌≡◌, ◌++◌, map, take}
-use Rattle.adf_account.specs.Told.{piece_told}
-use Rattle.adf_account.proofs.blocks.push_pieces.Given as goal
-
-abbrev pub invariant-loop-piece : goal.invariant-loop-piece
-invariant-loop-piece l = l.told.items ≡ l.fn.told.items ++ map (piece_told l.entries) (take l.piece-index l.pieces)

@@ -1,9 +1,0 @@
-use Rattle.ados_census.specs.steps.Marks.{unmarked}
-use Rattle.adf_account.proofs.Walking.{Walks}
-use Rattle.adf_account.proofs.extensions.follow.Given as goal
-
-abbrev pub invariant-loop-next : goal.invariant-loop-next
-invariant-loop-next l = Walks l.image l.file l.fn.marks.items l.marks.items l.holder
-
-abbrev pub decreases-loop-next : goal.decreases-loop-next
-decreases-loop-next l = unmarked l.marks.items

@@ -1,2 +1,0 @@
--- Definitions for steps: the marks of the account.
-pub mod Accounting

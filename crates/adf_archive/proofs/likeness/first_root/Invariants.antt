@@ -1,7 +1,0 @@
-use Rattle.std.proofs.Common.{ℕ, ◌<◌, ◌≤◌}
-use Rattle.adf_archive.specs.Likeness.{LooksLikeRoot}
-use Rattle.adf_archive.proofs.likeness.first_root.Given as goal
-
--- no block before this one looks like a root
-abbrev pub invariant-loop-block : goal.invariant-loop-block
-invariant-loop-block l = (b : ℕ) → 2 ≤ b → b < l.block → ¬ LooksLikeRoot l.image b

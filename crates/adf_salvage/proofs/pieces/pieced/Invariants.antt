@@ -1,5 +1,0 @@
-use Rattle.adf_salvage.specs.Saved.{IsPieced}
-use Rattle.adf_salvage.proofs.pieces.pieced.Given as goal
-
-abbrev pub invariant-loop-at : goal.invariant-loop-at
-invariant-loop-at l = IsPieced l.image l.pieces l.place l.count l.bytes.items

@@ -1,7 +1,0 @@
--- The entries and the blocks given to files, while they are gathered.
-pub mod Giving
-pub mod Gathering
-pub mod Finding
-pub mod Keeping
-pub mod Undeleting
-pub mod Settling

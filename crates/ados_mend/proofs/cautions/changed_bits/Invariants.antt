@@ -1,9 +1,0 @@
-use Rattle.ados_mend.proofs.Common.{◌≡◌, ◌*◌, ◌≤◌, total}
-use Rattle.ados_mend.proofs.Counted.{bits_at}
-use Rattle.ados_mend.proofs.cautions.changed_bits.Given as goal
-
-abbrev pub invariant-loop-i : goal.invariant-loop-i
-invariant-loop-i l = record {
-  counted : l.bits ≡ total (bits_at l.old l.new l.page) l.i;
-  bound : l.bits ≤ 32 * l.i;
-}

@@ -1,5 +1,0 @@
-use Rattle.ados_mend.proofs.Common.{ℕ, ◌<◌, ◌≤◌, HasFreeBit, IsSoundHeader}
-use Rattle.ados_mend.proofs.cautions.lost_header.Given as goal
-
-abbrev pub invariant-loop-block : goal.invariant-loop-block
-invariant-loop-block l = (k : ℕ) → 2 ≤ k → k < l.block → HasFreeBit l.new k → ¬ HasFreeBit l.old k → ¬ IsSoundHeader l.old k

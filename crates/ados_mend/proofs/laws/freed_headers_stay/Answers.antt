@@ -1,5 +1,0 @@
-use Rattle.ados_mend.proofs.FreedHeaders.{freed_headers_stay}
-use Rattle.ados_mend.proofs.laws.freed_headers_stay.Goals as goal
-
-pub returns : goal.returns
-returns c = freed_headers_stay

@@ -1,0 +1,8 @@
+use Rattle.ados_salvage.proofs.Common.{◌≡◌, IsGiving}
+use Rattle.ados_salvage.proofs.extensions.give_pointers.Given as goal
+
+abbrev pub invariant-loop-i : goal.invariant-loop-i
+invariant-loop-i l = record {
+  giving : IsGiving l.known.holes.items l.known.image l.giving;
+  left : l.giving.left ≡ l.initial.giving.left;
+}

@@ -1,0 +1,11 @@
+use Rattle.ados_salvage.proofs.Common.{◌≡◌, ◌<◌, ◌≤◌, IfSome, block_count, IsGiving}
+use Rattle.ados_salvage.proofs.giving.Giving.give.Given as goal
+
+abbrev pub invariant-loop-i : goal.invariant-loop-i
+invariant-loop-i l = record {
+  giving : IsGiving l.known.holes.items l.known.image l.self;
+  left : l.self.left ≡ l.initial.self.left;
+  few : l.there ≤ l.i;
+  holder : IfSome l.way.holder (λ block. block < block_count l.known.image);
+  before : IfSome l.way.before (λ block. block < block_count l.known.image);
+}

@@ -1,0 +1,21 @@
+-- What is saved of an image, and the descriptions of entries. Definitions for steps are in `steps`.
+pub mod Kind
+pub mod Loose
+pub mod Holes
+pub mod Lost
+pub mod Salvaged
+pub mod Saved
+pub mod Undeleted
+pub mod LostBlocks
+pub mod Account
+pub mod Parts
+pub mod Sound
+pub mod Doubtful
+pub mod ByCensus
+pub mod Holders
+pub mod Deleted
+pub mod Marks
+pub mod Found
+pub mod Known
+pub mod Listing
+pub mod steps

@@ -1,9 +1,0 @@
-use Rattle.ados_sound.proofs.Common.{◌≡◌, length, block_count, AreClaims, HasClaim, AreUsersBelow}
-use Rattle.ados_sound.proofs.claims.claims.Given as goal
-
-abbrev pub invariant-loop-file : goal.invariant-loop-file
-invariant-loop-file l = record {
-  size : length l.claims.items ≡ block_count l.image;
-  claims : AreClaims (HasClaim l.left_out l.image) (block_count l.image) l.file l.claims.items;
-  users : AreUsersBelow l.image l.file l.users.items;
-}

@@ -1,8 +1,0 @@
-use Rattle.ados_sound.proofs.Common.{◌≡◌, All, map, take, HasRecovery}
-use Rattle.ados_sound.proofs.deleted.all_deleted.Given as goal
-
-abbrev pub invariant-loop-header : goal.invariant-loop-header
-invariant-loop-header l = record {
-  same : map (λ entry. entry.header) l.found.items ≡ take l.header-index l.headers;
-  told : All (λ entry. HasRecovery l.known.image entry.header entry.recovery) l.found.items;
-}

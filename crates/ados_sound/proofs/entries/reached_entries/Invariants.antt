@@ -1,6 +1,0 @@
-use Rattle.ados_model.specs.Faults.{IsEntry}
-use Rattle.ados_sound.proofs.InOrder.{ListsBelow}
-use Rattle.ados_sound.proofs.entries.reached_entries.Given as goal
-
-abbrev pub invariant-loop-block : goal.invariant-loop-block
-invariant-loop-block l = ListsBelow (IsEntry l.image) l.block l.entries.items

@@ -1,6 +1,0 @@
-use Rattle.ados_sound.specs.Deleted.{IsDeleted}
-use Rattle.ados_sound.proofs.InOrder.{ListsBelow}
-use Rattle.ados_sound.proofs.left_out.deleted_headers.Given as goal
-
-abbrev pub invariant-loop-block : goal.invariant-loop-block
-invariant-loop-block l = ListsBelow (IsDeleted l.image) l.block l.headers.items

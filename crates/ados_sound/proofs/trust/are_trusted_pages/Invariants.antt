@@ -1,6 +1,0 @@
-use Rattle.std.proofs.Common.{ℕ, ◌<◌}
-use Rattle.ados_sound.specs.Deleted.{IsTrustedPage}
-use Rattle.ados_sound.proofs.trust.are_trusted_pages.Given as goal
-
-abbrev pub invariant-loop-p : goal.invariant-loop-p
-invariant-loop-p l = (q : ℕ) → q < l.p → IsTrustedPage l.image q

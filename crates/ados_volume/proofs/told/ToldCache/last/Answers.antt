@@ -1,6 +1,0 @@
-use Rattle.std.proofs.Common.{◌∙◌}
-use Rattle.ados_volume.proofs.Kept.{found_last}
-use Rattle.ados_volume.proofs.told.ToldCache.last.Goals as goal
-
-pub returns : goal.returns
-returns c = found_last c.args.self.now.entries.entries c.args.dir c.copied.result (c.copied.ensures ∙ c.peek.ensures)

@@ -1,3 +1,0 @@
--- Lists of owners and of faults, one after the other.
-pub mod Owning
-pub mod Finding

@@ -1,5 +1,0 @@
-use Rattle.std.proofs.Common.{vec_len}
-use Rattle.host_trees.proofs.walk.wait_for_names.Given as goal
-
-abbrev pub decreases-loop-name : goal.decreases-loop-name
-decreases-loop-name g l = vec_len l.names

@@ -1,6 +1,0 @@
-use Rattle.std.proofs.Common.{◌≡◌, map, take}
-use Rattle.port_ends.specs.steps.Rule.{total}
-use Rattle.port_ends.proofs.gathering.room_for_packets.Given as goal
-
-abbrev pub invariant-loop-k : goal.invariant-loop-k
-invariant-loop-k g l = l.puts ≡ total (map (λ c. c.put) (take l.k l.clients.items))

@@ -1,6 +1,0 @@
-use Rattle.std.proofs.Common.{ap}
-use Rattle.port_ends.proofs.Moves.{pushes}
-use Rattle.port_ends.proofs.queue.PutEnd.put.Goals as goal
-
-pub push_as-requires-clause-rule : goal.push_as-requires-clause-rule
-push_as-requires-clause-rule g c = let h = c.self.invariant in λ n. pushes n _ _ _ _ (ap (λ v. v.handles) h.1.0) (ap (λ v. v.number) h.1.0) h.1.1
