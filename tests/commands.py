@@ -302,9 +302,9 @@ def wrong_words_for_files(tried: Commands) -> None:
         wrong("relabel without a name", "relabel a", "NAME", "Usage"),
         wrong("boot with a number that is none", "boot --ticks x none.adf", "'x' for '--ticks"),
     )
-    for words in ("--to d none.adf", "--meta none.adf", "--force none.adf", "--bundle d none.adf", "none.adf PATH"):
+    for words in ("--to d none.adf", "--meta none.adf", "--unaccounted none.adf", "--force none.adf", "--bundle d none.adf", "none.adf PATH"):
         tried.rows(wrong(f"extract --damaged --list {words}", f"extract --damaged --list {words}", "--list", words.replace("none.adf", "").split()[0], "Usage"))
-    for option in ("--list", "--json"):
+    for option in ("--list", "--json", "--unaccounted"):
         tried.rows(wrong(f"extract {option} without --damaged", f"extract {option} none.adf", "--damaged", "Usage"))
         tried.rows(wrong(f"extract --bundle {option}", f"extract --bundle d {option} none.adf", "--bundle", "Usage"))
     for command in ("mkdir", "delete", "rename", "comment"):
@@ -1828,6 +1828,64 @@ def lost_blocks(tried: Commands) -> None:
     tried.rows(row("show without lost blocks where the bitmap is rebuilt", "show lost.adf", 0, shown_text(ffs.replace("valid", "not valid (rebuilt in memory)"), none, first, first)))
 
 
+def with_runs(image: bytes) -> bytes:
+    """A floppy with runs of one block, of four and of two that are marked used and belong to nothing. Each block has its number in each long."""
+    runs = [34, 46, 47, 48, 49, 1758, 1759]
+    data = bytearray(with_lost(image, runs, {}))
+    for block in runs:
+        data[BLOCK * block : BLOCK * (block + 1)] = block.to_bytes(4, "big") * 128
+    return bytes(data)
+
+
+def named_unaccounted(image: bytes) -> bytes:
+    """The same floppy with a sound header among the lost blocks, of an empty file with the name of the directory for the others."""
+    data = Image(poked(with_lost(image, [5], {5: FILE_HEADER}), 5, 108, b"\x0bunaccounted"))
+    data.settle(5)
+    return bytes(data.data)
+
+
+def files_below(top: str) -> Dict[str, bytes]:
+    """The bytes of each file below a directory, by its path there."""
+    paths = [os.path.join(at, name) for at, _, names in os.walk(top) for name in names]
+    return {os.path.relpath(it, top): Path(it).read_bytes() for it in paths}
+
+
+def runs_written(tried: Commands) -> None:
+    """`extract --damaged --unaccounted` writes each run of used blocks that belong to nothing to a file, in a directory whose name nothing
+    has. Without the option, and where there is no such block, it writes none."""
+    tried.rows(row("a volume for runs", f"blank --ffs {AT} Runs unlost.adf"), row("with a directory lost+found", f"mkdir {AT} --out taken.adf unlost.adf lost+found"))
+    blank, taken = tried.content("unlost.adf"), tried.content("taken.adf")
+    told, found = "unaccounted 7\n", "found whole lost+found/unaccounted\nunaccounted 7\n"
+    beside = {"lost+found/unaccounted": b""}
+    sizes = {"34-34": 1, "46-49": 4, "1758-1759": 2}
+    rows: List[Tuple[str, bytes, str, Dict[str, bytes], str]] = [
+        ("runs", with_runs(blank), told, {}, "lost+found/unaccounted"),
+        ("runs beside a directory lost+found", with_runs(taken), told, {}, "lost+found-1/unaccounted"),
+        ("runs beside a file of that name", named_unaccounted(with_runs(blank)), found, beside, "lost+found/unaccounted-1"),
+        ("no runs", blank, "", {}, ""),
+    ]
+    for name, image, told, others, directory in rows:
+        tried.write("runs.adf", image)
+        wanted = {f"{directory}/{it}": b"".join(block.to_bytes(4, "big") * 128 for block in range(int(it.split("-")[0]), int(it.split("-")[1]) + 1)) for it in sizes}
+        for more in ([], ["--unaccounted"], ["--unaccounted", "--json"]):
+            ran = tried.run("extract", "--damaged", *more, "--to", "runs", "runs.adf")
+            tried.report.same(f"{name} {' '.join(more)}: the status", ran.status, 0)
+            if "--json" not in more:
+                tried.report.same(f"{name} {' '.join(more)}: the lines", ran.output, told.encode())
+            tried.report.same(f"{name} {' '.join(more)}: the files", files_below("runs"), {**others, **(wanted if more and directory else {})})
+            if more and directory:
+                times = {os.stat(os.path.join("runs", it)).st_mtime for it in (directory, *wanted)}
+                tried.report.same(f"{name}: the dates", times, {252460800.0})
+            shutil.rmtree("runs", ignore_errors=True)
+    tried.write("runs.adf", with_runs(blank))
+    tried.rows(row("runs with --meta", "extract --damaged --unaccounted --meta --to noted runs.adf", 0, "unaccounted 7\n", "46 to 49"))
+    tried.report.same("runs have no notes", sorted(files_below("noted")), sorted(f"lost+found/unaccounted/{it}" for it in sizes))
+    Path("stands/lost+found/unaccounted").mkdir(parents=True)
+    tried.write("stands/lost+found/unaccounted/46-49", b"mine")
+    tried.rows(lacking("a file stands in the place of a run", "extract --damaged --unaccounted --to stands runs.adf", "46-49"))
+    tried.report.same("and nothing is written", files_below("stands"), {"lost+found/unaccounted/46-49": b"mine"})
+
+
 def refusal(words: str, told: str) -> str:
     """What a command prints for a refused image."""
     kind, block = told.split()
@@ -2146,7 +2204,7 @@ PARTS: List[Callable[[Commands], None]] = [
     *(standard_boot, shown_boots, saved_boots, named_boots, boot_options),
     *(held_images, readers_of_held_images, missing_files, errors_of_the_host, denied_files, first_faults),
     *(accepted_images, forms_of_lists, refused_images, stale_image, refused_output),
-    *(shown_volumes, lost_blocks, refused_shows, bold_letters, sorted_lists),
+    *(shown_volumes, lost_blocks, runs_written, refused_shows, bold_letters, sorted_lists),
     *(first_blocks, first_blocks_of_several, changed_first_blocks, wrong_first_blocks, missing_blocks, bad_blocks),
 ]
 

@@ -54,8 +54,11 @@ NOW = Rules(links=True, typed=True, capped=True, again=True, stale=True)
 NO_SUMS = b"adf_serve: the data blocks of this FFS disk have no checksums: 'whole' means that every pointer and header is right\n"
 # Why entries are doubtful or cut short.
 REASONS = {
-    "header": "its header has a wrong checksum or too long a comment",
-    "blocks": "a block of it has a wrong checksum or field, or is in another file too",
+    "sum": "block {} has a wrong checksum",
+    "comment": "the comment in its header is too long",
+    "hole": "block {} could not be read",
+    "shared": "block {} is in '{}' too",
+    "field": "block {} has a wrong field",
     "gone": "its header is gone, and it is made of the data blocks that name it",
     "cut": "incomplete files may have at most four times the bytes of the image in all",
 }
@@ -302,6 +305,7 @@ class Account(Disk):
         self.bytes: Dict[int, bytes] = {}
         self.left = 4 * len(self.data)
         self.cut: Set[int] = set()
+        self.there: Dict[int, Dict[int, int]] = {}
         self.numbers: Dict[int, Tuple[Set[int], int]] = {}
         self.loose: Dict[int, Dict[int, int]] = {}
         self.lists: Dict[int, List[Tuple[int, int]]] = {}
@@ -453,6 +457,7 @@ class Account(Disk):
     def broken_state(self, file: int) -> str:
         """The state of a file that is not whole; keeps its bytes."""
         needed, there = self.give(file)
+        self.there[file] = there
         self.numbers[file] = (set(there), needed)
         size = min(self.long(file, 81), self.blocks * self.room)
         end = min(size, self.room * (max(there) + 1)) if there else 0
@@ -620,8 +625,64 @@ class Account(Disk):
         if it.state != "doubtful":
             return None
         if it.header not in self.told:
-            return REASONS["gone"]
-        return REASONS["blocks" if it.header in self.sound else "header"]
+            return REASONS["hole"].format(it.header) if it.header in self.holes else REASONS["gone"]
+        return self.block_reason(it.header) if it.header in self.sound else self.header_reason(it.header)
+
+    def header_reason(self, header: int) -> str:
+        """Why a header is doubtful."""
+        if not self.is_summed(header):
+            return REASONS["sum"].format(header)
+        return REASONS["comment"]
+
+    def block_reason(self, file: int) -> str:
+        """Why a file with a sound header is doubtful: what is wrong with its pointer blocks, then with its data blocks, and then the first of
+        all of its blocks that another file has too."""
+        heads, wrong = self.chain(file)
+        if wrong is None and self.ofs:
+            wrong = self.data_reason(file)
+        elif wrong is None:
+            wrong = self.shared_reason(file, [it for head in heads for it in [head, *(self.long(head, 77 - at) for at in range(self.long(head, 2)))]])
+        return wrong or REASONS["field"].format(file)
+
+    def chain(self, file: int) -> Tuple[List[int], Optional[str]]:
+        """The pointer blocks of a file that its size needs, and what is wrong with the first wrong one."""
+        needed, heads = -(-self.long(file, 81) // self.room), [file]
+        while True:
+            head, after = heads[-1], self.long(heads[-1], 126)
+            ends = needed <= 72 * len(heads)
+            if self.long(head, 2) != max(0, min(72, needed - 72 * (len(heads) - 1))) or ends and after or not ends and after not in self.inside:
+                return heads, REASONS["field"].format(head)
+            if ends:
+                return heads, None
+            if after in self.holes or not self.is_summed(after):
+                return heads, REASONS["hole" if after in self.holes else "sum"].format(after)
+            if after in heads or not self.is_extension(file, after):
+                return heads, REASONS["field"].format(head if after in heads else after)
+            heads.append(after)
+
+    def data_reason(self, file: int) -> Optional[str]:
+        """What is wrong with the first wrong one of the OFS data blocks of a file."""
+        size, before = self.long(file, 81), file
+        for k, block in sorted(self.there[file].items()):
+            if not self.is_summed(block):
+                return REASONS["sum"].format(block)
+            if self.long(block, 3) != max(0, min(488, size - 488 * k)):
+                return REASONS["field"].format(block)
+            if self.long(before, 4) != block:
+                break
+            before = block
+        else:
+            if self.long(before, 4) == 0:
+                return None
+        return REASONS["field"].format(before)
+
+    def shared_reason(self, file: int, blocks: List[int]) -> Optional[str]:
+        """The first of these blocks of a file that another one has too, with the first such file of the account."""
+        for block in blocks:
+            for it in self.told_entries:
+                if it.header != file and it.header in self.users.get(block, ()):
+                    return REASONS["shared"].format(block, it.path)
+        return None
 
     def is_deleted_but_for_trust(self, it: Entry) -> bool:
         """Whether a found entry would be a deleted one if the bitmap could be trusted."""
@@ -807,6 +868,13 @@ def rest_of(data: bytes) -> List[int]:
 def rest_text(blocks: List[int]) -> bytes:
     """How standard error ends after `extract --damaged` of an image with these blocks: their numbers, as ranges."""
     return HEADING + ranges_of(set(blocks)) if blocks else b""
+
+
+def runs_of(blocks: List[int]) -> List[Tuple[int, int]]:
+    """The first and the last block of each run of consecutive ones."""
+    all_blocks = set(blocks)
+    firsts, lasts = (sorted(it for it in all_blocks if it + step not in all_blocks) for step in (-1, 1))
+    return list(zip(firsts, lasts))
 
 
 def rest_told(texts: bytes) -> bytes:

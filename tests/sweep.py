@@ -37,7 +37,7 @@ from typing import Callable, Dict, Iterator, List, Mapping, NamedTuple, Optional
 sys.dont_write_bytecode = True
 
 from all_faults_model import Model, lines_of
-from disk_model import NO_SUMS, NOW, PAGE, Account, Bitmap, Disk, Headers, Owners, Rules, rest_of, rest_text, rest_told, texts_told
+from disk_model import NO_SUMS, NOW, PAGE, Account, Bitmap, Disk, Headers, Owners, Rules, rest_of, rest_text, rest_told, runs_of, texts_told
 from drawn_volume import Drawer
 from fuzz import FEWEST, LARGEST, PER_BASE, Base, Damaged, a_chain, a_name, a_parent, a_pointer, a_size, base_of, damaged, told_of
 from harness import BLOCK, FILE, Image, Ran, Report, Room, host_name, in_memory, processors, program_of
@@ -548,8 +548,8 @@ class Compared:
         self.account(Account(self.data, self.rules, holes))
 
     def account(self, account: Account) -> None:
-        wanted = account.lines()
-        ran = self.room.run("extract", "--damaged", "--to", "out", *self.words)
+        wanted, runs = account.lines(), runs_of(account.rest) if len(account.rest) % 2 else []
+        ran = self.room.run("extract", "--damaged", "--to", "out", *["--unaccounted"] * bool(runs), *self.words)
         lines = ran.output.decode().splitlines()
         doubts = sum(it.state == "doubtful" for it in account.told_entries)
         assert ran.status == (0 if account.is_accepted else 3), f"status {ran.status}"
@@ -562,6 +562,7 @@ class Compared:
         assert rest == wanted_rest, differing(rest, wanted_rest)
         written = {os.path.relpath(os.path.join(top, name), "out"): Path(top, name).read_bytes() for top, _, names in os.walk("out") for name in names}
         told = {it.path: account.bytes[it.header] for it in account.told_entries if it.header in account.bytes}
+        told.update((f"lost+found/unaccounted/{first}-{last}", self.data[BLOCK * first : BLOCK * (last + 1)]) for first, last in runs)
         assert written.keys() == told.keys(), differing(sorted(written), sorted(told))
         other = sorted(it for it in told if told[it] != written[it])
         assert not other, f"other bytes in {other[:4]}: {[(len(written[it]), len(told[it])) for it in other[:4]]}"

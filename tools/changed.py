@@ -24,7 +24,7 @@ TOP = Path(__file__).resolve().parent.parent
 EVERYTHING = "everything"
 # The parts that run the program, and those that use the library for C.
 PROGRAM = (
-    "both walk commands files bundles cases kills archive validate where undelete hostile fuzz sweep boots completions"
+    "both walk commands files bundles cases kills archive validate where undelete rescued hostile fuzz sweep boots completions"
     " library emulator mount dist"
 )
 LIBRARY = "library shared python jip amiga emulator mount dist"

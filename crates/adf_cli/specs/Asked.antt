@@ -107,7 +107,8 @@ abbrev pub IsInto : Found → List ℕ → Type 0
 IsInto found to = to ≡ option_map_or (λ word. word) (first_value found (codes "to")) (codes ".")
 
 -- `extract`: with `--bundle` everything goes to this new directory, else with `--damaged` it is a rescue, else the paths are taken out;
--- the image, the paths and the directory are these arguments, and each option is as given
+-- the image, the paths, the directory and the file for a new image are these arguments, and each option is as given; that file is not
+-- standard output
 abbrev pub IsExtractOf : Found → ImageJob → Type 0
 IsExtractOf found (ExtractBundle image to) = IsFileOf found image × (first_value found (codes "bundle") ≡ Some to.now)
 IsExtractOf found (Salvage job) =
@@ -115,6 +116,9 @@ IsExtractOf found (Salvage job) =
     × ((given : Bool) → IsFlag found (codes "list") given → job.list ≡ given) × ((given : Bool) → IsFlag found (codes "json") given → job.json ≡ given)
     × ((given : Bool) → IsFlag found (codes "meta") given → job.meta ≡ given)
     × (first_value found (codes "bad") ≡ option_map (λ word. word.now) job.bad)
+    × (first_value found (codes "out") ≡ option_map (λ word. word.now) job.out) × (first_value found (codes "out") ≢ Some (codes "-"))
+    × ((given : Bool) → IsFlag found (codes "over") given → job.over ≡ given)
+    × ((given : Bool) → IsFlag found (codes "unaccounted") given → job.unaccounted ≡ given)
 IsExtractOf found (Extract job) =
     IsFileOf found job.image × (first_value found (codes "bundle") ≡ None) × IsLeftOut found (codes "damaged") × IsInto found job.to.now
     × (map (λ word. word.now) job.paths.items ≡ all_values found (codes "PATH"))

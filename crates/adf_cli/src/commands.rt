@@ -72,10 +72,12 @@ fn argument_of<'a>(alloc: Global, row: &ArgumentRow) -> Result<Arg<'a>, AllocErr
         Kind::One | Kind::Dashed | Kind::Optional => argument,
     };
     match row.kind {
-        Kind::With { option, excludes } => argument
-            .requires_arg(option)?
-            .conflicts_with_all(excludes),
-        Kind::Beside { option, .. } => argument.requires_arg(option),
+        Kind::With { option, excludes }
+        | Kind::Beside {
+            option,
+            excludes,
+            ..
+        } => argument.requires_arg(option)?.conflicts_with_all(excludes),
         Kind::Flag { excludes } | Kind::Instead { excludes, .. } => {
             argument.conflicts_with_all(excludes)
         }

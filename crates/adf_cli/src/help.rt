@@ -1,7 +1,7 @@
 //! The help of the program and of its commands, and its version.
 use crate::commands::command_of;
 use crate::group::{GROUPS, Group};
-use crate::table::{COMMANDS, CommandRow};
+use crate::table::CommandRow;
 use crate::version::{PROOF, VERSION};
 use crate::wrapping::wrapped;
 use std::alloc::{AllocError, Global};
@@ -12,17 +12,21 @@ const START: &str =
 const END: &str =
     "\nOptions:\n  -h, --help     Prints this help\n  -V, --version  Prints the version, and whether the program is proved\n\n`adf_serve COMMAND --help` shows its arguments and an example.\n";
 
-/// The help of the program, in lines of so many letters.
-pub(crate) fn program_help(alloc: Global, columns: usize) -> Result<String, AllocError> {
+/// The help of the program with these commands, in lines of so many letters.
+pub(crate) fn program_help(
+    alloc: Global,
+    rows: &[CommandRow],
+    columns: usize,
+) -> Result<String, AllocError> {
     let mut text = String::from_str(alloc, START)?;
     for group in GROUPS {
-        push_group(&mut text, group, &COMMANDS)?;
+        push_group(&mut text, group, rows)?;
     }
     text.push_str(END)?;
     wrapped(alloc, text.as_str(), columns)
 }
 
-/// Appends the commands of a group. The rows are an argument, because a function that names a table is slow to prove.
+/// Appends the commands of a group.
 fn push_group(text: &mut String, group: Group, rows: &[CommandRow]) -> Result<(), AllocError> {
     write!(text, "\n{}:\n", group.heading())?;
     for row in rows {

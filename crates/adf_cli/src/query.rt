@@ -129,4 +129,10 @@ pub struct SalvageJob<'a> {
     pub meta: bool,
     /// A list of blocks that could not be read.
     pub bad: Option<&'a str>,
+    /// The file for a new image with what is saved: then nothing else is written to the host.
+    pub out: Option<&'a str>,
+    /// Whether `out` is also written if it is a file that is no image.
+    pub over: bool,
+    /// Whether the used blocks that belong to nothing are written too.
+    pub unaccounted: bool,
 }

@@ -33,47 +33,55 @@ pub fn read_words<'a>(
     let Some((first, rest)) = words.split_first() else {
         return Ok(Job::Script);
     };
-    match asked_job(alloc, first.as_str(), rest, columns) {
+    match asked_job(alloc, &COMMANDS, first.as_str(), rest, columns) {
         Ok(job) => Ok(Job::OnImage(job)),
         Err(fault) => Err(fault),
     }
 }
 
-/// The job of this first word and the words after it. A text that is asked for is the fault: the command line has no job.
+/// The job of this first word and the words after it, by the rows of all commands. A text that is asked for is the fault: the command
+/// line has no job. The rows are an argument here and below, because a function that names a table is slow to prove.
 fn asked_job<'a>(
     alloc: Global,
+    rows: &[CommandRow],
     first: &str,
     words: &'a [String],
     columns: usize,
 ) -> Result<ImageJob<'a>, WordsFault> {
     match first {
-        "--help" | "-h" | "--" => Err(WordsFault::usage(program_help(alloc, columns))),
+        "--help" | "-h" | "--" => Err(WordsFault::usage(program_help(alloc, rows, columns))),
         "--version" | "-V" => Err(WordsFault::usage(version_text(alloc))),
-        "help" => Err(asked_help(alloc, words.first(), columns)),
-        _ => named_job(alloc, first, words, columns),
+        "help" => Err(asked_help(alloc, rows, words.first(), columns)),
+        _ => named_job(alloc, rows, first, words, columns),
     }
 }
 
 /// The help of the command with this name, or of the program without one.
-fn asked_help(alloc: Global, name: Option<&String>, columns: usize) -> WordsFault {
+fn asked_help(
+    alloc: Global,
+    rows: &[CommandRow],
+    name: Option<&String>,
+    columns: usize,
+) -> WordsFault {
     let Some(name) = name else {
-        return WordsFault::usage(program_help(alloc, columns));
+        return WordsFault::usage(program_help(alloc, rows, columns));
     };
-    match row_of(name.as_str(), &COMMANDS) {
+    match row_of(name.as_str(), rows) {
         Some(row) => WordsFault::usage(command_help(alloc, &row, columns)),
-        None => no_command(alloc, name.as_str()),
+        None => no_command(alloc, name.as_str(), rows),
     }
 }
 
 /// The job of the command with this name, and of these arguments.
 fn named_job<'a>(
     alloc: Global,
+    rows: &[CommandRow],
     name: &str,
     words: &'a [String],
     columns: usize,
 ) -> Result<ImageJob<'a>, WordsFault> {
-    let Some(row) = row_of(name, &COMMANDS) else {
-        return Err(no_command(alloc, name));
+    let Some(row) = row_of(name, rows) else {
+        return Err(no_command(alloc, name, rows));
     };
     let command = command_of(alloc, &row)?;
     match command.try_get_matches_from(words) {
@@ -88,7 +96,7 @@ fn named_job<'a>(
     }
 }
 
-/// The row with this name among these. They are an argument, because a function that names a table is slow to prove.
+/// The row with this name among these.
 fn row_of(name: &str, rows: &[CommandRow]) -> Option<CommandRow> {
     for row in rows {
         if row.name == name {

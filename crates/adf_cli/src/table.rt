@@ -45,10 +45,11 @@ pub(crate) enum Kind {
         value: &'static str,
         default: Option<&'static str>,
     },
-    /// An option with a value that needs another option; the value's name in the help, and that option.
+    /// An option with a value that needs another option; the value's name in the help, that option, and the arguments that it excludes.
     Beside {
         value: &'static str,
         option: &'static str,
+        excludes: &'static [&'static str],
     },
     /// An option with a value, in place of the arguments that it excludes; the value's name in the help.
     Instead {
@@ -315,8 +316,8 @@ pub(crate) const COMMANDS: [CommandRow; 21] = [
     CommandRow {
         name: "extract",
         about: "Writes files and directories of an image as those of the host",
-        examples: "Examples:\n  adf_serve extract --to here work.adf\n  adf_serve extract --meta --to here work.adf s c/dir\n  adf_serve extract --damaged --to here work.adf\n  adf_serve extract --damaged --list work.adf\n  adf_serve extract --bundle work work.adf",
-        usage: "adf_serve extract [--to DIR] [--meta] [--force] [--blocks N]\n           IMAGE [PATH..]\n       adf_serve extract --bundle DIR [--blocks N] IMAGE\n       adf_serve extract --damaged [--json] [--to DIR] [--meta] [--bad FILE]\n           [--blocks N] IMAGE\n       adf_serve extract --damaged --list [--json] [--bad FILE] [--blocks N]\n           IMAGE",
+        examples: "Examples:\n  adf_serve extract --to here work.adf\n  adf_serve extract --meta --to here work.adf s c/dir\n  adf_serve extract --damaged --to here work.adf\n  adf_serve extract --damaged --list work.adf\n  adf_serve extract --damaged --out new.adf work.adf\n  adf_serve extract --bundle work work.adf",
+        usage: "adf_serve extract [--to DIR] [--meta] [--force] [--blocks N]\n           IMAGE [PATH..]\n       adf_serve extract --bundle DIR [--blocks N] IMAGE\n       adf_serve extract --damaged [--json] [--to DIR] [--meta] [--unaccounted]\n           [--bad FILE] [--blocks N] IMAGE\n       adf_serve extract --damaged --list [--json] [--bad FILE] [--blocks N]\n           IMAGE\n       adf_serve extract --damaged --out FILE [--over] [--json] [--bad FILE]\n           [--blocks N] IMAGE",
         group: Group::TakeOut,
         effect: Effect::Reads,
         changes: false,
@@ -326,9 +327,12 @@ pub(crate) const COMMANDS: [CommandRow; 21] = [
             FORCE,
             ArgumentRow { name: "bundle", kind: Kind::Instead { value: "DIR", excludes: &["to", "meta", "force", "damaged", "PATH"] }, help: "Writes everything to this new directory: the files below `DIR/files`, and in `DIR/volume.json` all else that `add --bundle` needs to make the volume again" },
             ArgumentRow { name: "damaged", kind: Kind::Flag { excludes: &["force", "PATH"] }, help: "Writes all that can be trusted of an image that may be refused, and prints a line for each file and directory" },
-            ArgumentRow { name: "list", kind: Kind::With { option: "damaged", excludes: &["to", "meta", "force", "bundle", "PATH"] }, help: "With `--damaged`: only prints the lines, and writes nothing" },
+            ArgumentRow { name: "list", kind: Kind::With { option: "damaged", excludes: &["to", "meta", "unaccounted", "force", "bundle", "PATH"] }, help: "With `--damaged`: only prints the lines, and writes nothing" },
             ArgumentRow { name: "json", kind: Kind::With { option: "damaged", excludes: &["bundle"] }, help: "With `--damaged`: prints a JSON object in place of the lines" },
-            ArgumentRow { name: "bad", kind: Kind::Beside { value: "FILE", option: "damaged" }, help: "With `--damaged`: the blocks that this list names could not be read, whatever stands there. Each line has the number of a block or its place, as `where` takes them; `#` begins a comment" },
+            ArgumentRow { name: "unaccounted", kind: Kind::With { option: "damaged", excludes: &["bundle"] }, help: "With `--damaged`: also writes the blocks in use that belong to no reported entry, to `lost+found/unaccounted/FIRST-LAST`" },
+            ArgumentRow { name: "bad", kind: Kind::Beside { value: "FILE", option: "damaged", excludes: &[] }, help: "With `--damaged`: the blocks that this list names could not be read, whatever stands there. Each line has the number of a block or its place, as `where` takes them; `#` begins a comment" },
+            ArgumentRow { name: "out", kind: Kind::Beside { value: "FILE", option: "damaged", excludes: &["to", "meta", "unaccounted", "list", "bundle"] }, help: "With `--damaged`: writes what can be saved to this new image, and nothing else" },
+            ArgumentRow { name: "over", kind: Kind::With { option: "out", excludes: &[] }, help: "Lets `--out` write over a file that is not an image" },
             FRONT,
             IMAGE,
             ArgumentRow { name: "PATH", kind: Kind::Any, help: "A file, or a directory with everything in it. Without PATH everything in the image is written" },

@@ -217,6 +217,9 @@ pub(crate) fn extract_job<'a>(arguments: &Arguments<'a, '_>) -> Result<ImageJob<
             to,
             meta,
             bad: arguments.bad_list(),
+            out: arguments.out_file()?,
+            over: arguments.flag("over"),
+            unaccounted: arguments.flag("unaccounted"),
         }));
     }
     Ok(ImageJob::Extract(ExtractJob {

@@ -5,17 +5,17 @@ ghost use Rattle.adf_cli.specs.declared.group.Effect.TheVariants.{Removes};
 use crate::fault::WordsFault;
 use crate::group::Effect;
 use crate::other_words::{OTHER_WORDS, OtherWords};
-use crate::table::{COMMANDS, CommandRow};
+use crate::table::CommandRow;
 use std::alloc::{AllocError, Global};
 use strsim::osa_distance;
 
 /// The fault of a command line whose first word is no command: with what stands here for that word of another tool, or
-/// else with the command that it is most like.
-pub(crate) fn no_command(alloc: Global, word: &str) -> WordsFault {
+/// else with the command of these rows that it is most like.
+pub(crate) fn no_command(alloc: Global, word: &str, rows: &[CommandRow]) -> WordsFault {
     if let Some(tip) = tip_of(word, &OTHER_WORDS) {
         return WordsFault::wrong(alloc, format_args!("error: no command '{word}': {tip}"));
     }
-    match alike(alloc, word, &COMMANDS) {
+    match alike(alloc, word, rows) {
         Ok(Some(row)) => WordsFault::wrong(
             alloc,
             format_args!("error: no command '{word}': did you mean `{}`?", row.name),

@@ -19,3 +19,6 @@ pub mod Parts
 pub mod Reaching
 pub mod Naming
 mod Bundled
+pub mod SavedPlaces
+pub mod SavedNoting
+pub mod SavedLeft

@@ -11,4 +11,6 @@ pub mod Turns
 pub mod Put
 pub mod Commands
 pub mod Progress
+pub mod SavedNames
+pub mod SavedVolume
 pub mod steps

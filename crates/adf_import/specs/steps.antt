@@ -1,3 +1,4 @@
--- Definitions for steps: the cut of a file that is too long, and the object that a part of a path leads to.
+-- Definitions for steps: the cut of a file that is too long, the object that a part of a path leads to, and places in a new volume.
 pub mod CutBack
 pub mod Reached
+pub mod Spots

@@ -12,9 +12,9 @@ use crate::paths::directory_at;
 use crate::progress::Progress;
 use adf_block::beside::CHECKSUM;
 use adf_block::layout::DATE;
-use adf_block::{Image, restore_boot, size_ok};
+use adf_block::{Image, LongBoot, restore_boot, size_ok};
 use adf_cli::Refused;
-use adf_record::{Bundle, bundle_of, contents_of, same_bundle, same_contents};
+use adf_record::{Bundle, BundleHead, bundle_of, contents_of, same_bundle, same_contents};
 use adf_text::Uaem;
 use ados_change::put_date;
 use ados_model::DosError;
@@ -78,15 +78,26 @@ fn image_of(
     }
     let mut volume = blank(alloc, head.format, head.blocks, head.label, head.created)?;
     put_entries(alloc, &mut volume, bundle, contents, directory)?;
+    match with_head(volume, &head, &bundle.boot) {
+        Ok(image) => Ok(image),
+        Err(_) => Err(InFault::Source(SourceFault::Unlike)),
+    }
+}
+
+/// The image of a volume with the label, the dates but that of its making, and the boot block of another one. More than 1,024 bytes are no boot
+/// block.
+pub(crate) fn with_head(
+    mut volume: Volume,
+    head: &BundleHead,
+    boot: &[u8],
+) -> Result<Image, LongBoot> {
     volume.rename_disk(head.label, head.changed);
     let mut image = volume.into_image();
     prove!(image.blocks() >= 16);
     let root = image.root();
     put_date(&mut image, root, DATE, head.root_date);
     image.settle(root, CHECKSUM);
-    if restore_boot(&mut image, &bundle.boot).is_err() {
-        return Err(InFault::Source(SourceFault::Unlike));
-    }
+    restore_boot(&mut image, boot)?;
     Ok(image)
 }
 

@@ -1,5 +1,5 @@
 //! Changes of a volume in memory by commands: each is made whole or not at all. Entries and their metadata, and files of the
-//! host that are put in.
+//! host that are put in, and new volumes for what was saved of damaged ones.
 #![tactic(auto)]
 
 mod adding;
@@ -22,7 +22,15 @@ mod progress;
 mod prune;
 mod put;
 mod room;
+mod saved_fill;
+mod saved_head;
+mod saved_left;
+mod saved_look;
+mod saved_names;
+mod saved_plan;
+mod saved_volume;
 mod single;
+mod spots;
 mod ways;
 mod words;
 
@@ -37,3 +45,6 @@ pub use name_why::{NameWhy, wrong_name};
 pub use new_file::{NewFile, NotPut, put_file, replace_file};
 pub use one_file::StandardInput;
 pub use prune::{delete_all, denied_entry};
+pub use saved_fill::LeftOut;
+pub use saved_names::OwnNames;
+pub use saved_volume::{LeftEntry, NotSaved, SavedVolume, volume_of_salvage};

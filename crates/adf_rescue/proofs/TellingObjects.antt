@@ -1,6 +1,6 @@
 -- The report on a rescue, entry by entry: as lines or as an object.
 use Rattle.std.proofs.Common.{◌≡◌, ℕ, Bool, true, false, ◌||◌, List, [], ◌∷◌, ◌++◌, length, take, drop, take-append-drop, append_assoc, append-nil, codes, refl, sym, ap, ◌∙◌, subst}
-use Rattle.std.specs.Prelude.{if◌then◌else◌, fold, flat_map}
+use Rattle.std.specs.Prelude.{if◌then◌else◌, fold, flat_map, Option}
 use Rattle.std.specs.List.{list_any}
 use Rattle.std.proofs.lemmas.List.Sums.{fold-append}
 use Rattle.std.proofs.lemmas.List.Folds.{list_any-append}
@@ -10,8 +10,10 @@ use Rattle.json.proofs.Printed.Tokens.{print_from-append}
 use Rattle.ados_salvage.specs.declared.salvaged.Salvaged.{Salvaged}
 use Rattle.ados_salvage.specs.Marks.{mark_at}
 use Rattle.adf_rescue.specs.declared.damaged.Rescue.{Rescue}
+use Rattle.adf_rescue.specs.declared.doubt.Doubt.{Doubt}
 use Rattle.adf_rescue.specs.declared.missing.Run.{Run}
 use Rattle.adf_rescue.specs.Missing.{values_at}
+use Rattle.adf_rescue.specs.Reasons.{doubt_at, reason_by}
 use Rattle.adf_rescue.specs.Rescue.{AreSomeRescued, IsTold, rescue_line}
 use Rattle.adf_rescue.specs.Rescue.AreLines.{none as no_lines, one as one_line}
 use Rattle.adf_rescue.specs.RescueObject.{AreObjects, IsReportObject, entry_tokens, hole_tokens, is_summed, is_told, object_tokens, path_end, rest_tokens}
@@ -27,28 +29,30 @@ abbrev after_value : Bool → List Token → Bool
 after_value b tokens = fold (λ _ t. ends t) b tokens
 
 -- a value ended behind the object of an entry
-entry_ends : (image : List ℕ) (entry : Salvaged) (deleted : Bool) (runs : List Run) (path : List ℕ) (before : Bool) → after_value before (entry_tokens image entry deleted runs path) ≡ true
-entry_ends image entry deleted runs path before =
+entry_ends : (image : List ℕ) (entry : Salvaged) (reason : Option (List ℕ)) (deleted : Bool) (runs : List Run) (path : List ℕ) (before : Bool) → after_value before (entry_tokens image entry reason deleted runs path) ≡ true
+entry_ends image entry reason deleted runs path before =
     fold-append (λ _ t. ends t) false (flat_map (hole_tokens image entry.header) runs ++ end_array ∷ []) (end_object ∷ [])
 
 module _ (rescue : Rescue) where
   -- the object of an entry
-  abbrev object_of : ℕ → Salvaged → List ℕ → List Token
-  object_of place e path = if is_told e.state e.found then object_tokens rescue place e (path ++ path_end e.state) else []
+  abbrev object_of : ℕ → Salvaged → List ℕ → List ℕ → List Token
+  object_of place e other path = if is_told e.state e.found then object_tokens rescue place e other (path ++ path_end e.state) else []
 
-  after_object : (told : Bool) (place : ℕ) (entry : Salvaged) (path : List ℕ) (before : Bool) → after_value before (if told then object_tokens rescue place entry path else []) ≡ (before || told)
-  after_object true place entry path true = entry_ends rescue.salvage.image entry (mark_at rescue.untrusted.items place) (values_at rescue.missing.items place) path true
-  after_object true place entry path false = entry_ends rescue.salvage.image entry (mark_at rescue.untrusted.items place) (values_at rescue.missing.items place) path false
-  after_object false place entry path true = refl
-  after_object false place entry path false = refl
+  after_object : (told : Bool) (place : ℕ) (entry : Salvaged) (other path : List ℕ) (before : Bool) → after_value before (if told then object_tokens rescue place entry other path else []) ≡ (before || told)
+  after_object true place entry other path true =
+      entry_ends rescue.salvage.image entry (reason_by other (doubt_at rescue.doubts.items place)) (mark_at rescue.untrusted.items place) (values_at rescue.missing.items place) path true
+  after_object true place entry other path false =
+      entry_ends rescue.salvage.image entry (reason_by other (doubt_at rescue.doubts.items place)) (mark_at rescue.untrusted.items place) (values_at rescue.missing.items place) path false
+  after_object false place entry other path true = refl
+  after_object false place entry other path false = refl
 
   -- an object just ended if some entry was told
   after_objects : (entries : List Salvaged) (objects : List Token) → AreObjects rescue entries objects → after_value false objects ≡ are_told entries
   after_objects [] [] none = refl
-  after_objects _ _ (one entries entry objects object are (path, is)) =
+  after_objects _ _ (one entries entry objects object are (other, path, is)) =
       fold-append (λ _ t. ends t) false objects object
       ∙ ap (after_value (after_value false objects)) is
-      ∙ after_object (is_told entry.state entry.found) (length entries) entry (path ++ path_end entry.state) (after_value false objects)
+      ∙ after_object (is_told entry.state entry.found) (length entries) entry other (path ++ path_end entry.state) (after_value false objects)
       ∙ ap (λ b. b || is_told entry.state entry.found) (after_objects entries objects are)
       ∙ or_more (are_told entries) (is_told entry.state entry.found)
       ∙ sym (list_any-append (λ e. is_told e.state e.found) entries (entry ∷ []))
@@ -65,11 +69,11 @@ module _ (rescue : Rescue) where
   no_parts false = no_lines
 
 -- an object behind a comma, if it is not the first
-pub object_printed : (after : Bool) (image : List ℕ) (entry : Salvaged) (deleted : Bool) (runs : List Run) (path : List ℕ)
-    → (if after then codes "," else []) ++ print (entry_tokens image entry deleted runs path) ≡ print_from after (entry_tokens image entry deleted runs path)
+pub object_printed : (after : Bool) (image : List ℕ) (entry : Salvaged) (reason : Option (List ℕ)) (deleted : Bool) (runs : List Run) (path : List ℕ)
+    → (if after then codes "," else []) ++ print (entry_tokens image entry reason deleted runs path) ≡ print_from after (entry_tokens image entry reason deleted runs path)
 unfolding print_from
-object_printed true image entry deleted runs path = refl
-object_printed false image entry deleted runs path = refl
+object_printed true image entry reason deleted runs path = refl
+object_printed false image entry reason deleted runs path = refl
 
 -- one more object is printed
 print_more : (objects object : List Token) (after : Bool) → after_value false objects ≡ after → print (front_tokens (objects ++ object)) ≡ print (front_tokens objects) ++ print_from after object
@@ -83,13 +87,13 @@ if_printed false after tokens = refl
 
 module _ (rescue : Rescue) (entries : List Salvaged) (entry : Salvaged) (text : List ℕ) (printed : ArePrinted rescue entries text) where
   printed_more : (after : Bool) (part : List ℕ) → after ≡ are_told entries → IsNextObject rescue after (length entries) entry part → ArePrinted rescue (entries ++ entry ∷ []) (text ++ part)
-  printed_more after part is (path, next) = record {
-    objects = printed.objects ++ object_of rescue (length entries) entry path;
-    are = one entries entry printed.objects (object_of rescue (length entries) entry path) printed.are (path, refl);
+  printed_more after part is (other, path, next) = record {
+    objects = printed.objects ++ object_of rescue (length entries) entry other path;
+    are = one entries entry printed.objects (object_of rescue (length entries) entry other path) printed.are (other, path, refl);
     printed =
         ap (λ t. t ++ part) printed.printed
-        ∙ ap (λ p. print (front_tokens printed.objects) ++ p) (next ∙ if_printed (is_told entry.state entry.found) after (object_tokens rescue (length entries) entry (path ++ path_end entry.state)))
-        ∙ sym (print_more printed.objects (object_of rescue (length entries) entry path) after (after_objects rescue entries printed.objects printed.are ∙ sym is));
+        ∙ ap (λ p. print (front_tokens printed.objects) ++ p) (next ∙ if_printed (is_told entry.state entry.found) after (object_tokens rescue (length entries) entry other (path ++ path_end entry.state)))
+        ∙ sym (print_more printed.objects (object_of rescue (length entries) entry other path) after (after_objects rescue entries printed.objects printed.are ∙ sym is));
   }
 
 -- what is behind the objects has no comma before it
@@ -123,25 +127,29 @@ parts_more true rescue entries entry text told after part is next = printed_more
 parts_more false rescue entries entry text told after part is line = one_line entries entry text part told line
 
 -- the object of an entry, by what is told of it
-object_is : (image other : List ℕ) (e entry : Salvaged) (here there : Bool) (runs others : List Run) (path : List ℕ) → image ≡ other → e ≡ entry → here ≡ there → runs ≡ others
-    → entry_tokens image e here runs (path ++ path_end e.state) ≡ entry_tokens other entry there others (path ++ path_end entry.state)
-object_is image other e entry here there runs others path alike same deleted missing =
-    ap (λ (x : List ℕ). entry_tokens x e here runs (path ++ path_end e.state)) alike ∙ ap (λ (x : Salvaged). entry_tokens other x here runs (path ++ path_end x.state)) same
-    ∙ ap (λ (x : Bool). entry_tokens other entry x runs (path ++ path_end entry.state)) deleted ∙ ap (λ (x : List Run). entry_tokens other entry there x (path ++ path_end entry.state)) missing
+object_is : (image other : List ℕ) (e entry : Salvaged) (reason why : Option (List ℕ)) (here there : Bool) (runs others : List Run) (path : List ℕ) → image ≡ other → e ≡ entry → reason ≡ why → here ≡ there → runs ≡ others
+    → entry_tokens image e reason here runs (path ++ path_end e.state) ≡ entry_tokens other entry why there others (path ++ path_end entry.state)
+object_is image other e entry reason why here there runs others path alike same said deleted missing =
+    ap (λ (x : List ℕ). entry_tokens x e reason here runs (path ++ path_end e.state)) alike ∙ ap (λ (x : Salvaged). entry_tokens other x reason here runs (path ++ path_end x.state)) same
+    ∙ ap (λ (x : Option (List ℕ)). entry_tokens other entry x here runs (path ++ path_end entry.state)) said
+    ∙ ap (λ (x : Bool). entry_tokens other entry why x runs (path ++ path_end entry.state)) deleted ∙ ap (λ (x : List Run). entry_tokens other entry why there x (path ++ path_end entry.state)) missing
 
 -- an object is what is told of its entry
-pub object_told : (json : Bool) (rescue : Rescue) (after : Bool) (place : ℕ) (entry : Salvaged) (image : List ℕ) (e : Salvaged) (deleted : Bool) (runs : List Run) (path text : List ℕ) → json ≡ true
-    → is_told entry.state entry.found ≡ true → image ≡ rescue.salvage.image → e ≡ entry → deleted ≡ mark_at rescue.untrusted.items place → runs ≡ values_at rescue.missing.items place
-    → text ≡ print_from after (entry_tokens image e deleted runs (path ++ path_end e.state)) → IsPart json rescue after place entry text
-object_told json rescue after place entry image e deleted runs path text as_json told of_image same marked missing is =
-    let tokens = object_is image rescue.salvage.image e entry deleted (mark_at rescue.untrusted.items place) runs (values_at rescue.missing.items place) path of_image same marked missing in
-    let printed : text ≡ print_from after (object_tokens rescue place entry (path ++ path_end entry.state)) = is ∙ ap (print_from after) tokens in
+pub object_told : (json : Bool) (rescue : Rescue) (after : Bool) (place : ℕ) (entry : Salvaged) (image : List ℕ) (e : Salvaged) (doubt : Option Doubt) (other : List ℕ) (deleted : Bool) (runs : List Run) (path text : List ℕ) → json ≡ true
+    → is_told entry.state entry.found ≡ true → image ≡ rescue.salvage.image → e ≡ entry → doubt ≡ doubt_at rescue.doubts.items place → deleted ≡ mark_at rescue.untrusted.items place → runs ≡ values_at rescue.missing.items place
+    → text ≡ print_from after (entry_tokens image e (reason_by other doubt) deleted runs (path ++ path_end e.state)) → IsPart json rescue after place entry text
+object_told json rescue after place entry image e doubt other deleted runs path text as_json told of_image same why marked missing is =
+    let tokens =
+    object_is image rescue.salvage.image e entry (reason_by other doubt) (reason_by other (doubt_at rescue.doubts.items place)) deleted (mark_at rescue.untrusted.items place) runs (values_at rescue.missing.items place) path of_image same
+    (ap (reason_by other) why) marked missing
+    in
+    let printed : text ≡ print_from after (object_tokens rescue place entry other (path ++ path_end entry.state)) = is ∙ ap (print_from after) tokens in
     subst (λ (form : Bool). IsPart form rescue after place entry text) (sym as_json)
-    (path, printed ∙ sym (ap (λ (b : Bool). if b then print_from after (object_tokens rescue place entry (path ++ path_end entry.state)) else []) told))
+    (other, path, printed ∙ sym (ap (λ (b : Bool). if b then print_from after (object_tokens rescue place entry other (path ++ path_end entry.state)) else []) told))
 
 -- something is told of each entry
 some_part : (json : Bool) (rescue : Rescue) (after : Bool) (place : ℕ) (e : Salvaged) → (part : List ℕ) × IsPart json rescue after place e part
-some_part true rescue after place e = (if is_told e.state e.found then print_from after (object_tokens rescue place e ([] ++ path_end e.state)) else [], ([], refl))
+some_part true rescue after place e = (if is_told e.state e.found then print_from after (object_tokens rescue place e [] ([] ++ path_end e.state)) else [], ([], [], refl))
 some_part false rescue after place e = (rescue_line e.found e.state [], ([], refl))
 
 -- the report on some entries goes on to one on all

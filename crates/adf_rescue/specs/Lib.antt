@@ -7,4 +7,6 @@ pub mod RescueObject
 pub mod DeletedObject
 pub mod Undelete
 pub mod Untrusted
+pub mod BlockRuns
+pub mod Unaccounted
 pub mod steps

@@ -9,8 +9,9 @@ use Rattle.ados_salvage.specs.Saved.{HasBytes, IsAt}
 use Rattle.ados_salvage.specs.Account.{AreUnaccounted}
 use Rattle.adf_rescue.specs.Missing.{AreMissing}
 use Rattle.adf_rescue.specs.Paths.{ArePathsApart, files_from}
-use Rattle.adf_rescue.specs.Undelete.{file_in}
+use Rattle.adf_rescue.specs.Reasons.{AreDoubts}
 use Rattle.adf_rescue.specs.RescueObject.{IsReportObject}
+use Rattle.adf_rescue.specs.Undelete.{file_in}
 use Rattle.adf_rescue.specs.Untrusted.{AreMarked}
 use Rattle.adf_rescue.specs.declared.sourced.Source.{Source}
 use Rattle.adf_rescue.specs.declared.sourced.Source.TheVariants.{File}
@@ -72,12 +73,13 @@ pub record AreRescued (json : Bool) (rescue : Rescue) (accepted : Bool) (text : 
 abbrev pub AreSomeRescued : Bool → Rescue → List ℕ → Type 0
 AreSomeRescued json rescue text = (accepted : Bool) × AreRescued json rescue accepted text
 
--- everything in an image with these holes that can be trusted, and the blocks that are used and belong to nothing of it; of each entry its
--- missing data blocks, and whether it would be a deleted one by a bitmap that cannot be trusted. Each file is written, once, and no two
--- files, directories or notes to one path
+-- everything in an image with these holes that can be trusted, and the blocks that are used and belong to nothing of it; of each entry why
+-- it is doubtful or cut short, its missing data blocks, and whether it would be a deleted one by a bitmap that cannot be trusted. Each file
+-- is written, once, and no two files, directories or notes to one path
 pub record IsRescue (holes : List Bool) (image : List ℕ) (rescue : Rescue) : Type 0 where
   pub salvaged : SalvagesBeside holes image rescue.salvage
   pub unaccounted : AreUnaccounted rescue.salvage rescue.unaccounted.items
+  pub doubts : AreDoubts rescue.salvage rescue.doubts.items
   pub missing : AreMissing rescue.salvage rescue.missing.items
   pub untrusted : AreMarked rescue.salvage rescue.untrusted.items
   pub paths : ArePathsApart rescue.plan.out.items.items

@@ -1,5 +1,5 @@
 -- The report on a damaged image as a JSON object.
-use Rattle.std.specs.Prelude.{◌≡◌, ℕ, Bool, true, false, List, [], ◌∷◌, ◌++◌, codes, decimal, flat_map, length, if◌then◌else◌, Option, Some, None, option_map}
+use Rattle.std.specs.Prelude.{◌≡◌, ℕ, Bool, true, false, List, [], ◌∷◌, ◌++◌, codes, decimal, flat_map, length, if◌then◌else◌, Option, Some, None}
 use Rattle.json.specs.Token.{Token, begin_object, end_object, begin_array, end_array, key, string, number, boolean}
 use Rattle.json.specs.Print.{print}
 use Rattle.adf_block.specs.Fields.{format_of}
@@ -15,7 +15,7 @@ use Rattle.adf_record.specs.Members.{number_token, string_token}
 use Rattle.adf_rescue.specs.declared.damaged.Rescue.{Rescue}
 use Rattle.adf_rescue.specs.declared.missing.Run.{Run}
 use Rattle.adf_rescue.specs.Missing.{first_byte, last_byte, values_at}
-use Rattle.adf_rescue.specs.Reasons.{doubt_of, reason_text}
+use Rattle.adf_rescue.specs.Reasons.{doubt_at, reason_by}
 
 -- an entry is told, unless it is a sound directory that was not recovered
 abbrev pub is_told : State → Bool → Bool
@@ -55,10 +55,10 @@ written image header (Broken missing cut length) = Some (size_of image header (B
 
 -- the members for its header, its size and why it is doubtful or cut short, and whether it would be a deleted entry by a bitmap that
 -- cannot be trusted
-abbrev pub detail_tokens : List ℕ → ℕ → State → Bool → List Token
-detail_tokens image header state deleted =
+abbrev pub detail_tokens : List ℕ → ℕ → State → Option (List ℕ) → Bool → List Token
+detail_tokens image header state reason deleted =
     key (codes "header") ∷ number (decimal header) ∷ key (codes "size") ∷ number_token (written image header state)
-    ∷ key (codes "reason") ∷ string_token (option_map reason_text (doubt_of state)) ∷ key (codes "deleted") ∷ boolean deleted ∷ []
+    ∷ key (codes "reason") ∷ string_token reason ∷ key (codes "deleted") ∷ boolean deleted ∷ []
 
 -- the object of a run of missing data blocks of a file with this header: the bytes of the file in them, and their numbers
 abbrev pub hole_tokens : List ℕ → ℕ → Run → List Token
@@ -70,21 +70,21 @@ hole_tokens image header run =
 abbrev pub holes_tokens : List ℕ → ℕ → List Run → List Token
 holes_tokens image header runs = key (codes "holes") ∷ begin_array ∷ (flat_map (hole_tokens image header) runs ++ end_array ∷ [])
 
--- the object of an entry with this path
-abbrev pub entry_tokens : List ℕ → Salvaged → Bool → List Run → List ℕ → List Token
-entry_tokens image entry deleted runs path =
+-- the object of an entry with this path and this reason why it is doubtful or cut short
+abbrev pub entry_tokens : List ℕ → Salvaged → Option (List ℕ) → Bool → List Run → List ℕ → List Token
+entry_tokens image entry reason deleted runs path =
     begin_object ∷ (state_tokens entry.found entry.state path
-    ++ (detail_tokens image entry.header entry.state deleted ++ (holes_tokens image entry.header runs ++ end_object ∷ [])))
+    ++ (detail_tokens image entry.header entry.state reason deleted ++ (holes_tokens image entry.header runs ++ end_object ∷ [])))
 
--- the same of the entry at a position of a rescue
-abbrev pub object_tokens : Rescue → ℕ → Salvaged → List ℕ → List Token
-object_tokens rescue place entry path =
-    entry_tokens rescue.salvage.image entry (mark_at rescue.untrusted.items place) (values_at rescue.missing.items place) path
+-- the same of the entry at a position of a rescue; `other` is the path of the entry that has a block of it too
+abbrev pub object_tokens : Rescue → ℕ → Salvaged → List ℕ → List ℕ → List Token
+object_tokens rescue place entry other path =
+    entry_tokens rescue.salvage.image entry (reason_by other (doubt_at rescue.doubts.items place)) (mark_at rescue.untrusted.items place) (values_at rescue.missing.items place) path
 
--- the object of that entry at some host path, if it is told
+-- the object of that entry at some host path, with that of some other entry in its reason, if it is told
 abbrev pub IsEntryObject : Rescue → ℕ → Salvaged → List Token → Type 0
 IsEntryObject rescue place entry object =
-    (path : List ℕ) × (object ≡ (if is_told entry.state entry.found then object_tokens rescue place entry (path ++ path_end entry.state) else []))
+    (other : List ℕ) × (path : List ℕ) × (object ≡ (if is_told entry.state entry.found then object_tokens rescue place entry other (path ++ path_end entry.state) else []))
 
 -- the objects of these entries, the first ones of a rescue, one after the other
 pub data AreObjects (rescue : Rescue) : List Salvaged → List Token → Type 0 where

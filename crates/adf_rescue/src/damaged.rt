@@ -1,23 +1,26 @@
 //! What can be trusted in a damaged image, as files and directories of the host.
-ghost use Rattle.std.specs.Prelude.{◌≡◌, ◌<◌, ℕ, Bool, List, IfErr, IfOk, OnErr, flat_map, length, ◌||◌};
+ghost use Rattle.std.specs.Prelude.{◌≡◌, ◌<◌, ℕ, Bool, List, IfErr, IfOk, OnErr, length, ◌||◌};
 ghost use Rattle.std.specs.String.{string_bytes};
 ghost use Rattle.adf_io.specs.Prefix.{Writes, WritesFrontOf};
 ghost use Rattle.ados_salvage.specs.Marks.{mark_at};
 ghost use Rattle.ados_salvage.specs.Holes.{SalvagesBeside};
 ghost use Rattle.ados_salvage.specs.Saved.{IsAt};
 ghost use Rattle.adf_rescue.specs.Missing.{values_at};
-ghost use Rattle.adf_rescue.specs.Paths.{ArePathsApart, files_from};
+ghost use Rattle.adf_rescue.specs.Reasons.{doubt_at};
 ghost use Rattle.adf_rescue.specs.Rescue.{AreRescued, AreSomeRescued, IsRescue, IsRescueFault, count_line, rescue_line};
 ghost use Rattle.adf_rescue.specs.RescueObject.{is_summed, is_told, written};
-ghost use Rattle.adf_rescue.specs.Undelete.{file_in};
+ghost use Rattle.adf_rescue.specs.Unaccounted.{WritesRuns};
 ghost use Rattle.adf_text.specs.Ranges.{ranges};
 ghost use Rattle.adf_rescue.specs.steps.Reporting.{IsPart, rest_of};
+ghost use Rattle.adf_rescue.specs.steps.Writing.{IsOutput};
 
-use crate::doubt::{Doubt, doubt_of};
+use crate::doubt::Doubt;
 use crate::missing::{Run, missing_runs};
 use crate::missing_text::missing_text;
 use crate::plan::Plan;
+use crate::reasons::doubts;
 use crate::rescue_object::{Row, entry_object, front_text, is_told, rest_object};
+use crate::unaccounted::RunFiles;
 use crate::untrusted::untrusted_marks;
 use adf_block::{Format, Image};
 use adf_cli::SalvageJob;
@@ -35,10 +38,24 @@ pub struct Rescue {
     plan: Plan,
     /// The blocks that are used and belong to nothing of the salvage.
     unaccounted: Vec<u32>,
+    /// For each entry, why it is doubtful or cut short, if it is.
+    doubts: Vec<Option<Doubt>>,
     /// For each entry, the runs of its missing data blocks.
     missing: Vec<Vec<Run>>,
     /// For each entry, whether it would be a deleted one if the bitmap could be trusted.
     untrusted: Vec<bool>,
+    /// The runs of the unaccounted blocks, as far as they are written as files.
+    files: RunFiles,
+}
+
+/// What is written of a damaged image.
+#[derive(Drop)]
+struct Output {
+    plan: Plan,
+    /// The blocks that are used and belong to nothing of the salvage.
+    unaccounted: Vec<u32>,
+    /// The runs of these, as far as they are written as files.
+    files: RunFiles,
 }
 
 /// Why a damaged image is neither told nor written.
@@ -60,7 +77,8 @@ impl From<AllocError> for RescueFault {
 }
 
 /// Writes everything in an image with these holes that can be trusted below a directory of the host. With `meta`, a note is written
-/// beside each entry. Nothing is written if the job only lists, or if an existing file or directory of the host is in the way.
+/// beside each entry, and with `unaccounted` a file for each run of used blocks that belong to nothing of it. Nothing is written if the job
+/// only lists or makes a new image, or if an existing file or directory of the host is in the way.
 pub fn extract_damaged<R: PromptFiles>(
     rt: &R,
     alloc: Global,
@@ -71,34 +89,52 @@ pub fn extract_damaged<R: PromptFiles>(
 where
     R::File: OwnedFile,
     ensures told { IfOk result (IsRescue holes.items image) }
+    ensures runs { IfOk result (WritesRuns job.now.unaccounted) }
     ensures fault { IfErr result (IsRescueFault job.now.list) }
 {
     let salvage = salvage_beside(alloc, image, holes)?;
-    let plan = Plan::of(alloc, &salvage, job.meta)?;
-    if !job.list {
-        if let Err(fault) = plan.out.write(rt, alloc, &salvage, job.to, false) {
+    let output = output_of(alloc, &salvage, job)?;
+    if !(job.list || job.out.is_some()) {
+        let (out, files) = (&output.plan.out, &output.files);
+        if let Err(fault) = files.write(rt, alloc, out, &salvage, job.to) {
             return Err(RescueFault::Host(fault));
         }
     }
-    Ok(rescue_of(alloc, salvage, plan)?)
+    Ok(rescue_of(alloc, salvage, output)?)
 }
 
-/// What was saved with these host files and directories, with what only the report needs: the used blocks that belong to nothing of
-/// it, the missing data blocks of its files, and what the bitmap says of its entries. So less memory is held while files are written.
-fn rescue_of(alloc: Global, salvage: Salvage, plan: Plan) -> Result<Rescue, AllocError>
-    requires paths { ArePathsApart plan.out.items.items }
-    requires files { flat_map file_in plan.out.sources.items ≡ files_from 0 salvage.entries }
-    ensures { IfOk result (λ rescue. (holes : List Bool) (image : List ℕ) → SalvagesBeside holes image salvage → IsRescue holes image rescue) }
+/// The host files and directories for a salvage, with the used blocks that belong to nothing of it.
+fn output_of(alloc: Global, salvage: &Salvage, job: &SalvageJob<'_>) -> Result<Output, AllocError>
+    ensures { IfOk result (IsOutput salvage.now job.now.unaccounted) }
 {
-    let unaccounted = unaccounted_blocks(alloc, &salvage)?;
+    let unaccounted = unaccounted_blocks(alloc, salvage)?;
+    let mut plan = Plan::of(alloc, salvage, job.meta)?;
+    let files = RunFiles::of(alloc, &mut plan, &unaccounted, job.unaccounted)?;
+    plan.out.forget_names(alloc);
+    Ok(Output {
+        plan,
+        unaccounted,
+        files,
+    })
+}
+
+/// What was saved with these host files and directories, with what only the report needs: why entries are doubtful, the missing data
+/// blocks of the files, and what the bitmap says of the entries. So less memory is held while files are written.
+fn rescue_of(alloc: Global, salvage: Salvage, output: Output) -> Result<Rescue, AllocError>
+    ensures told { IfOk result (λ rescue. (holes : List Bool) (image : List ℕ) (wanted : Bool) → SalvagesBeside holes image salvage → IsOutput salvage wanted output → IsRescue holes image rescue) }
+    ensures runs { IfOk result (λ rescue. (wanted : Bool) → IsOutput salvage wanted output → WritesRuns wanted rescue) }
+{
+    let doubts = doubts(alloc, &salvage)?;
     let missing = missing_runs(alloc, &salvage)?;
     let untrusted = untrusted_marks(alloc, &salvage)?;
     Ok(Rescue {
         salvage,
-        plan,
-        unaccounted,
+        plan: output.plan,
+        unaccounted: output.unaccounted,
+        doubts,
         missing,
         untrusted,
+        files: output.files,
     })
 }
 
@@ -106,6 +142,13 @@ impl Rescue {
     /// The kind of disk as which the image was read.
     pub fn format(&self) -> Format {
         self.salvage.image().format()
+    }
+
+    /// What is saved.
+    pub fn salvage(&self) -> &Salvage
+        ensures { result.now ≡ self.now.salvage }
+    {
+        &self.salvage
     }
 
     /// The number of entries.
@@ -130,10 +173,27 @@ impl Rescue {
         alloc: Global,
         place: usize,
     ) -> Result<Option<(String, Doubt)>, AllocError> {
-        let state = self.salvage.entries().get(place).map(|entry| entry.state);
-        match state.and_then(doubt_of) {
+        match self.doubt_of(place) {
             Some(doubt) => Ok(Some((self.path_at(alloc, place)?, doubt))),
             None => Ok(None),
+        }
+    }
+
+    /// Why the entry at a position is doubtful or cut short, if it is.
+    fn doubt_of(&self, place: usize) -> Option<Doubt>
+        ensures { result ≡ doubt_at self.now.doubts.items place }
+    {
+        match self.doubts.get(place) {
+            Some(doubt) => *doubt,
+            None => None,
+        }
+    }
+
+    /// The path of the entry that has a block too, if that is the doubt; else nothing. [`Doubt::reason`] names it.
+    pub fn other_path(&self, alloc: Global, doubt: Option<Doubt>) -> Result<String, AllocError> {
+        match doubt {
+            Some(Doubt::Shared(_, place)) => self.path_at(alloc, place),
+            _ => Ok(String::new(alloc)),
         }
     }
 
@@ -189,7 +249,7 @@ impl Rescue {
     }
 
     /// The host path of the entry at a position. If it has more than 4,095 bytes, the entry is told by its header's block.
-    fn path_at(&self, alloc: Global, place: usize) -> Result<String, AllocError> {
+    pub fn path_at(&self, alloc: Global, place: usize) -> Result<String, AllocError> {
         if let Some(path) = self.plan.path_of(alloc, place)? {
             return Ok(path);
         }
@@ -257,20 +317,23 @@ impl Rescue {
         }
         let path = self.path_at(alloc, place)?;
         if json {
-            let row = self.row_at(place, entry);
+            let other = self.other_path(alloc, self.doubt_of(place))?;
+            let row = self.row_at(place, entry, other.as_str());
             return entry_object(alloc, &row, path.as_str(), after);
         }
         let line = line_of_path(alloc, found, state, path.as_str())?;
         Ok(line.into_bytes())
     }
 
-    /// The entry at a position, with what its object says.
-    fn row_at<'a>(&'a self, place: usize, entry: &'a Salvaged) -> Row<'a>
+    /// The entry at a position, with what its object says. `other` is the path of the entry that has a block of it too.
+    fn row_at<'a>(&'a self, place: usize, entry: &'a Salvaged, other: &'a str) -> Row<'a>
         requires inside { place < length self.now.salvage.entries }
         requires at { IsAt self.now.salvage.entries place entry.now }
         ensures image { result.image.now ≡ self.now.salvage.image }
         ensures entry { result.entry.now ≡ entry.now }
         ensures size { result.size ≡ written self.now.salvage.image entry.now.header entry.now.state }
+        ensures doubt { result.doubt ≡ doubt_at self.now.doubts.items place }
+        ensures other { result.other.now ≡ other.now }
         ensures deleted { result.deleted ≡ mark_at self.now.untrusted.items place }
         ensures missing { result.missing.now ≡ values_at self.now.missing.items place }
     {
@@ -278,6 +341,8 @@ impl Rescue {
             image: self.salvage.image(),
             entry,
             size: self.written_at(place, entry),
+            doubt: self.doubt_of(place),
+            other,
             deleted: self.is_untrusted_at(place),
             missing: self.runs_at(place),
         }

@@ -1,16 +1,23 @@
 //! Why entries are doubtful or cut short.
-ghost use Rattle.std.specs.Prelude.{◌≡◌};
-ghost use Rattle.adf_rescue.specs.Reasons.{doubt_of, reason_text};
+ghost use Rattle.std.specs.Prelude.{◌≡◌, IfOk};
+ghost use Rattle.std.specs.String.{string_bytes};
+ghost use Rattle.adf_rescue.specs.Reasons.{reason_text};
 
-use ados_salvage::{HeaderState, State};
+use std::alloc::{AllocError, Global};
 
 /// Why an entry is doubtful or cut short.
 #[derive(Clone, Copy)]
 pub enum Doubt {
-    /// Its header has a wrong checksum or too long a comment.
-    Header,
-    /// Its header is sound, but another of its blocks is not, or is named by another file too.
-    Blocks,
+    /// This block of it, which may be its header, has a wrong checksum.
+    Sum(u32),
+    /// The comment in its header is too long.
+    Comment,
+    /// Nobody read this block of it, its header or an extension block.
+    Hole(u32),
+    /// This block of it is also one of the entry at this position.
+    Shared(u32, usize),
+    /// This block of it has a wrong field.
+    Field(u32),
     /// It has no header: it is what is left in the data blocks that name it.
     Gone,
     /// Its bytes end early, because of the limit for all files that are not whole.
@@ -21,48 +28,41 @@ impl Doubt {
     /// What the entry is: `doubtful` or `cut short`.
     pub fn word(self) -> &'static str {
         match self {
-            Doubt::Header | Doubt::Blocks | Doubt::Gone => "doubtful",
             Doubt::Cut => "cut short",
+            _ => "doubtful",
         }
     }
 
-    /// Why, as standard error and JSON say it.
-    pub fn reason(self) -> &'static str
-        ensures { result.now ≡ reason_text self }
+    /// Why, as standard error and JSON say it. `other` is the path of the entry that has a block of it too.
+    pub fn reason(self, alloc: Global, other: &str) -> Result<String, AllocError>
+        ensures { IfOk result (λ text. string_bytes text ≡ reason_text other.now self) }
     {
         match self {
-            Doubt::Header => HEADER,
-            Doubt::Blocks => BLOCKS,
-            Doubt::Gone => GONE,
-            Doubt::Cut => CUT,
+            Doubt::Sum(block) => {
+                let text = format!(in alloc; "block {block} has a wrong checksum")?;
+                Ok(text)
+            }
+            Doubt::Comment => String::from_str(alloc, "the comment in its header is too long"),
+            Doubt::Hole(block) => {
+                let text = format!(in alloc; "block {block} could not be read")?;
+                Ok(text)
+            }
+            Doubt::Shared(block, _) => {
+                let text = format!(in alloc; "block {block} is in '{other}' too")?;
+                Ok(text)
+            }
+            Doubt::Field(block) => {
+                let text = format!(in alloc; "block {block} has a wrong field")?;
+                Ok(text)
+            }
+            Doubt::Gone => String::from_str(alloc, GONE),
+            Doubt::Cut => String::from_str(alloc, CUT),
         }
     }
 }
-
-/// A directory or file is doubtful because of its header.
-const HEADER: &str = "its header has a wrong checksum or too long a comment";
-
-/// A file with a sound header is doubtful because of another block.
-const BLOCKS: &str = "a block of it has a wrong checksum or field, or is in another file too";
 
 /// A file is doubtful because it has no header.
 const GONE: &str = "its header is gone, and it is made of the data blocks that name it";
 
 /// A file is cut short because of the bound for all of them.
 const CUT: &str = "incomplete files may have at most four times the bytes of the image in all";
-
-/// Why an entry with this state is doubtful or cut short, if it is.
-pub(crate) fn doubt_of(state: State) -> Option<Doubt>
-    ensures { result ≡ doubt_of state }
-{
-    match state {
-        State::DoubtfulDirectory => Some(Doubt::Header),
-        State::Doubtful { header, .. } => Some(match header {
-            HeaderState::Sound => Doubt::Blocks,
-            HeaderState::Doubtful => Doubt::Header,
-            HeaderState::Gone => Doubt::Gone,
-        }),
-        State::Broken { cut: true, .. } => Some(Doubt::Cut),
-        _ => None,
-    }
-}

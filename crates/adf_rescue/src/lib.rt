@@ -2,21 +2,27 @@
 #![tactic(auto)]
 
 mod asked;
+mod block_runs;
 mod chosen;
 mod damaged;
 mod deleted_lines;
 mod deleted_objects;
 mod doubt;
+mod evidence;
+mod hints;
 mod idle;
 mod missing;
 mod missing_text;
 mod number_words;
 mod placing;
 mod plan;
+mod reasons;
 mod rescue_object;
 mod saving;
+mod sharing;
 mod sourced;
 mod spans;
+mod unaccounted;
 mod undelete_fault;
 mod undeleting;
 mod untrusted;

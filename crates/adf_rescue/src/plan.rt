@@ -1,6 +1,6 @@
 //! The host files and directories for what can be trusted in a damaged image.
 ghost use Rattle.std.specs.Prelude.{◌≡◌, ◌≢◌, ◌≤◌, ◌++◌, [], All, IfNone, IfOk, IfSome, IsTrue, OnOk, flat_map, length};
-ghost use Rattle.adf_rescue.specs.Paths.{ArePathsApart, file_at, files_from};
+ghost use Rattle.adf_rescue.specs.Paths.{file_at, files_from};
 ghost use Rattle.adf_rescue.specs.Undelete.{file_in};
 ghost use Rattle.adf_rescue.specs.steps.Sourcing.{AreApart};
 
@@ -48,7 +48,7 @@ pub(crate) struct Plan {
 impl Plan {
     /// The items for the entries of a salvage. With `meta`, a note is beside each.
     pub(crate) fn of(alloc: Global, salvage: &Salvage, meta: bool) -> Result<Plan, AllocError>
-        ensures paths { IfOk result (λ plan. ArePathsApart plan.out.items.items) }
+        ensures apart { IfOk result (λ plan. AreApart plan.out) }
         ensures files { IfOk result (λ plan. flat_map file_in plan.out.sources.items ≡ files_from 0 salvage.now.entries) }
     {
         let entries = salvage.entries();
@@ -63,7 +63,6 @@ impl Plan {
             let above = plan.directory_of(alloc, entries, entry)?;
             plan.add(alloc, place, entry, above)?;
         }
-        plan.out.forget_names(alloc);
         Ok(plan)
     }
 
@@ -141,7 +140,7 @@ impl Plan {
     }
 
     /// The item of the directory for recovered entries.
-    fn lost_and_found(&mut self, alloc: Global, date: Date3) -> Result<usize, AllocError>
+    pub(crate) fn lost_and_found(&mut self, alloc: Global, date: Date3) -> Result<usize, AllocError>
         requires { AreApart self.old.out }
         ensures apart { OnOk result (AreApart self.new.out) }
         ensures files { OnOk result (flat_map file_in self.new.out.sources.items ≡ flat_map file_in self.old.out.sources.items) }

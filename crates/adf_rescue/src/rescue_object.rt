@@ -1,13 +1,14 @@
 //! The parts of the JSON object that reports on a damaged image.
-ghost use Rattle.std.specs.Prelude.{◌≡◌, ◌++◌, ◌∷◌, [], IfOk, OnOk, codes, decimal, flat_map, if◌then◌else◌, option_map};
+ghost use Rattle.std.specs.Prelude.{◌≡◌, ◌++◌, ◌∷◌, [], IfOk, OnOk, codes, decimal, flat_map, if◌then◌else◌};
 ghost use Rattle.std.specs.String.{string_bytes};
 ghost use Rattle.json.specs.Print.{print, print_from};
-ghost use Rattle.json.specs.Token.{number};
-ghost use Rattle.adf_rescue.specs.Reasons.{doubt_of, reason_text};
+ghost use Rattle.adf_record.specs.Members.{string_token};
+ghost use Rattle.json.specs.Token.{key, number};
+ghost use Rattle.adf_rescue.specs.Reasons.{reason_by};
 ghost use Rattle.adf_rescue.specs.RescueObject.{detail_tokens, entry_tokens, hole_tokens, holes_tokens, is_told, path_end, rest_tokens, state_tokens, state_word, written};
 ghost use Rattle.adf_rescue.specs.steps.Reporting.{front_of};
 
-use crate::doubt::doubt_of;
+use crate::doubt::Doubt;
 use crate::missing::Run;
 use crate::spans::{first_byte, last_byte};
 use adf_block::Image;
@@ -23,6 +24,10 @@ pub(crate) struct Row<'a> {
     pub(crate) entry: &'a Salvaged,
     /// The number of bytes of it that are written, if it is a file.
     pub(crate) size: Option<u64>,
+    /// Why it is doubtful or cut short, if it is.
+    pub(crate) doubt: Option<Doubt>,
+    /// The path of the entry that has a block of it too, if that is why.
+    pub(crate) other: &'a str,
     /// Whether it would be a deleted entry if the bitmap could be trusted.
     pub(crate) deleted: bool,
     /// The runs of its missing data blocks.
@@ -47,11 +52,11 @@ pub(crate) fn entry_object(
     after: bool,
 ) -> Result<Vec<u8>, AllocError>
     requires { row.now.size ≡ written row.now.image.now row.now.entry.now.header row.now.entry.now.state }
-    ensures { IfOk result (λ text. text.items ≡ print_from after (entry_tokens row.now.image.now row.now.entry.now row.now.deleted row.now.missing.now (path.now ++ path_end row.now.entry.now.state))) }
+    ensures { IfOk result (λ text. text.items ≡ print_from after (entry_tokens row.now.image.now row.now.entry.now (reason_by row.now.other.now row.now.doubt) row.now.deleted row.now.missing.now (path.now ++ path_end row.now.entry.now.state))) }
 {
     let path = slashed(alloc, row.entry.state, path)?;
     let mut writer = Writer::new(comma(alloc, after)?);
-    put_entry(&mut writer, row, path.as_str())?;
+    put_entry(alloc, &mut writer, row, path.as_str())?;
     Ok(writer.into_inner())
 }
 
@@ -75,14 +80,19 @@ fn comma(alloc: Global, after: bool) -> Result<Vec<u8>, AllocError>
 }
 
 /// Writes the object of an entry with this path.
-fn put_entry(writer: &mut Writer, row: &Row<'_>, path: &str) -> Result<(), AllocError>
+fn put_entry(
+    alloc: Global,
+    writer: &mut Writer,
+    row: &Row<'_>,
+    path: &str,
+) -> Result<(), AllocError>
     requires { row.now.size ≡ written row.now.image.now row.now.entry.now.header row.now.entry.now.state }
     ensures before { writer.new.before ≡ writer.old.before }
-    ensures tokens { OnOk result (writer.new.tokens ≡ writer.old.tokens ++ entry_tokens row.now.image.now row.now.entry.now row.now.deleted row.now.missing.now path.now) }
+    ensures tokens { OnOk result (writer.new.tokens ≡ writer.old.tokens ++ entry_tokens row.now.image.now row.now.entry.now (reason_by row.now.other.now row.now.doubt) row.now.deleted row.now.missing.now path.now) }
 {
     writer.begin_object()?;
     put_state(writer, row.entry.found, row.entry.state, path)?;
-    put_detail(writer, row)?;
+    put_detail(alloc, writer, row)?;
     put_holes(writer, row.image, row.entry.header, row.missing)?;
     writer.end_object()
 }
@@ -100,22 +110,32 @@ fn put_state(writer: &mut Writer, found: bool, state: State, path: &str) -> Resu
 }
 
 /// Writes the members for the header and the size of an entry, for what is wrong with it, and for what the bitmap says of it.
-fn put_detail(writer: &mut Writer, row: &Row<'_>) -> Result<(), AllocError>
+fn put_detail(alloc: Global, writer: &mut Writer, row: &Row<'_>) -> Result<(), AllocError>
     requires { row.now.size ≡ written row.now.image.now row.now.entry.now.header row.now.entry.now.state }
     ensures before { writer.new.before ≡ writer.old.before }
-    ensures tokens { OnOk result (writer.new.tokens ≡ writer.old.tokens ++ detail_tokens row.now.image.now row.now.entry.now.header row.now.entry.now.state row.now.deleted) }
+    ensures tokens { OnOk result (writer.new.tokens ≡ writer.old.tokens ++ detail_tokens row.now.image.now row.now.entry.now.header row.now.entry.now.state (reason_by row.now.other.now row.now.doubt) row.now.deleted) }
 {
     put_number(writer, "header", Some(u64::from(row.entry.header)))?;
     put_number(writer, "size", row.size)?;
-    put_text(writer, "reason", reason_of(row.entry.state))?;
+    put_reason(alloc, writer, row.doubt, row.other)?;
     put_flag(writer, "deleted", row.deleted)
 }
 
-/// Why an entry with this state is doubtful or cut short, if it is.
-fn reason_of(state: State) -> Option<&'static str>
-    ensures { option_map (λ text. text.now) result ≡ option_map reason_text (doubt_of state) }
+/// Writes the member for why an entry is doubtful or cut short. `other` is the path of the entry that has a block of it too.
+fn put_reason(
+    alloc: Global,
+    writer: &mut Writer,
+    doubt: Option<Doubt>,
+    other: &str,
+) -> Result<(), AllocError>
+    ensures before { writer.new.before ≡ writer.old.before }
+    ensures tokens { OnOk result (writer.new.tokens ≡ writer.old.tokens ++ key (codes "reason") ∷ string_token (reason_by other.now doubt) ∷ []) }
 {
-    Some(doubt_of(state)?.reason())
+    let Some(doubt) = doubt else {
+        return put_text(writer, "reason", None);
+    };
+    let reason = doubt.reason(alloc, other)?;
+    put_text(writer, "reason", Some(reason.as_str()))
 }
 
 /// Writes the member for the runs of missing data blocks of a file with this header.

@@ -1,5 +1,5 @@
 //! Host files and directories for entries of a salvage, and where their bytes are.
-ghost use Rattle.std.specs.Prelude.{◌≡◌, ◌++◌, ◌∷◌, [], ℕ, List, IfOk, IfSome, OnOk, flat_map, if◌then◌else◌, slice_get, true};
+ghost use Rattle.std.specs.Prelude.{◌≡◌, ◌+◌, ◌++◌, ◌∷◌, [], ℕ, List, IfOk, IfSome, OnOk, flat_map, if◌then◌else◌, length, slice_get, true};
 ghost use Rattle.std.specs.BTreeSet.{contains_text};
 ghost use Rattle.std.specs.Str.{bytes_eq};
 ghost use Rattle.std.specs.String.{string_bytes};
@@ -26,6 +26,8 @@ pub(crate) enum Source {
     File(usize),
     /// The note of an entry, by its position.
     Note(usize),
+    /// A run of blocks that belong to no entry.
+    Run,
 }
 
 /// Items, each written into the item of its directory, and for each the source of its bytes.
@@ -43,9 +45,9 @@ pub(crate) struct SourcedItems {
 
 /// The bytes of items, by their sources.
 #[derive(Drop)]
-struct Rescued<'a> {
-    salvage: &'a Salvage,
-    sources: &'a [Source],
+pub(crate) struct Rescued<'a> {
+    pub(crate) salvage: &'a Salvage,
+    pub(crate) sources: &'a [Source],
 }
 
 impl Source {
@@ -53,7 +55,7 @@ impl Source {
     fn kind(self) -> ItemKind {
         match self {
             Source::Directory => ItemKind::Directory,
-            Source::File(_) | Source::Note(_) => ItemKind::File,
+            Source::File(_) | Source::Note(_) | Source::Run => ItemKind::File,
         }
     }
 }
@@ -88,6 +90,24 @@ impl SourcedItems {
         let name = self.free_name(alloc, above, name)?;
         let item = self.push(alloc, above, name, Source::Directory, date)?;
         Ok(item)
+    }
+
+    /// Adds a file for a run of blocks. If its name is in use where it is, an ending makes it another one.
+    pub(crate) fn push_run(
+        &mut self,
+        alloc: Global,
+        dir: usize,
+        name: HostName,
+        date: Date3,
+    ) -> Result<(), AllocError>
+        requires apart { AreApart self.old }
+        ensures count { OnOk result (length self.new.sources.items ≡ length self.old.sources.items + 1) }
+        ensures files { OnOk result (flat_map file_in self.new.sources.items ≡ flat_map file_in self.old.sources.items) }
+        ensures apart { OnOk result (AreApart self.new) }
+    {
+        let name = self.free_name(alloc, Some(dir), name)?;
+        self.push(alloc, Some(dir), name, Source::Run, date)?;
+        Ok(())
     }
 
     /// Adds an item whose name is not in use, and returns its position.
@@ -216,11 +236,19 @@ impl SourcedItems {
     where
         R::File: OwnedFile,
     {
-        let mut contents = Rescued {
+        let mut contents = self.contents(salvage);
+        write_tree(rt, alloc, to, &self.items, &mut contents, force)
+    }
+
+    /// Their bytes in this salvage.
+    pub(crate) fn contents<'a>(&'a self, salvage: &'a Salvage) -> Rescued<'a>
+        ensures salvage { result.salvage.now ≡ salvage.now }
+        ensures sources { result.sources.now ≡ self.now.sources.items }
+    {
+        Rescued {
             salvage,
             sources: &self.sources,
-        };
-        write_tree(rt, alloc, to, &self.items, &mut contents, force)
+        }
     }
 }
 

@@ -19,7 +19,7 @@ use Rattle.adf_export.specs.declared.fault.OutFault.TheVariants as out
 use Rattle.adf_export.specs.Printing.{IsPrinted, IsPrintFault}
 use Rattle.adf_io.proofs.Prefixes.{writes_first}
 use Rattle.adf_serve.specs.declared.fault.CommandFault.{CommandFault}
-use Rattle.adf_serve.specs.declared.fault.CommandFault.TheVariants.{Dos, Extracted, ImagesRefused, Memory, NotChecked, NotWhole, Output, Refused}
+use Rattle.adf_serve.specs.declared.fault.CommandFault.TheVariants.{Dos, Extracted, ImagesRefused, LeftOut, Memory, NotChecked, NotWhole, Output, Refused}
 use Rattle.adf_serve.specs.declared.refusal.Refusal.{Refusal}
 use Rattle.adf_serve.specs.declared.refusal.DosRefusal.{DosRefusal}
 use Rattle.adf_serve.specs.Asked.{AnswersDisk}
@@ -320,6 +320,7 @@ module _ (json : Bool) (IsText : Bool → List ℕ → Type 0) (IsPlain : Refusa
   -- the fault has no text, or no memory for it
   report_failed : (old new : Option (List ℕ)) (fault : CommandFault) → DoesReport IsText IsPlain MayEnd old new (Err fault) → IsNoRefusal fault → TellsReport json IsText IsPlain MayEnd old new (Err fault)
   report_failed old new NotWhole told plain = told
+  report_failed old new LeftOut told plain = told
   report_failed old new (Refused refusal) d plain = absurd (cc plain)
   report_failed old new (Dos refusal) d plain = absurd (cc plain)
   report_failed old new fault (may, inl keeps) plain = (may, inl keeps)
@@ -327,6 +328,7 @@ module _ (json : Bool) (IsText : Bool → List ℕ → Type 0) (IsPlain : Refusa
 
   report_unsaid : (old new : Option (List ℕ)) (fault : CommandFault) → MayEnd Memory → DoesReport IsText IsPlain MayEnd old new (Err fault) → TellsReport json IsText IsPlain MayEnd old new (Err Memory)
   report_unsaid old new NotWhole may d = (may, inr (d.0, inl (false, d.2), told_front old new d.0 d.1))
+  report_unsaid old new LeftOut may d = (may, inr (d.0, inl (true, d.2), told_front old new d.0 d.1))
   report_unsaid old new (Refused refusal) may d = (may, inl d.0)
   report_unsaid old new (Dos refusal) may keeps = (may, inl keeps)
   report_unsaid old new fault may (ends, inl keeps) = (may, inl keeps)
@@ -335,17 +337,19 @@ module _ (json : Bool) (IsText : Bool → List ℕ → Type 0) (IsPlain : Refusa
 -- a report that was not made
 module _ (IsText : Bool → List ℕ → Type 0) (IsPlain : Refusal → Type 0) (MayEnd : CommandFault → Type 0) where
   -- nothing is written, or a prefix of a report, at a fault without a text
-  pub report_left : (old new : Option (List ℕ)) (fault : CommandFault) → IsNoRefusal fault → fault ≢ NotWhole → MayEnd fault → Keeps old new ⊎ WritesFrontOf old new (IsSomeText IsText)
+  pub report_left : (old new : Option (List ℕ)) (fault : CommandFault) → IsNoRefusal fault → fault ≢ NotWhole → fault ≢ LeftOut → MayEnd fault → Keeps old new ⊎ WritesFrontOf old new (IsSomeText IsText)
       → DoesReport IsText IsPlain MayEnd old new (Err fault)
-  report_left old new NotWhole plain other may left = absurd (other refl)
-  report_left old new (Refused refusal) plain other may left = absurd (cc plain)
-  report_left old new (Dos refusal) plain other may left = absurd (cc plain)
-  report_left old new fault plain other may left = (may, left)
+  report_left old new NotWhole plain other all may left = absurd (other refl)
+  report_left old new LeftOut plain other all may left = absurd (all refl)
+  report_left old new (Refused refusal) plain other all may left = absurd (cc plain)
+  report_left old new (Dos refusal) plain other all may left = absurd (cc plain)
+  report_left old new fault plain other all may left = (may, left)
 
   -- nothing is written if no image was read
   no_image_reported : (w : Option (List ℕ)) (fault : CommandFault) → ((bytes : List ℕ) (refusal : Refusal) → IsSizeRefusal bytes refusal → IsPlain refusal) → (IsNoImage fault → MayEnd fault) → IsNoImage fault
       → DoesReport IsText IsPlain MayEnd w w (Err fault)
   no_image_reported w NotWhole plain may is = absurd is
+  no_image_reported w LeftOut plain may is = absurd is
   no_image_reported w (Refused refusal) plain may is = (Keeps-refl w, plain is.0 refusal is.1)
   no_image_reported w (Dos refusal) plain may is = Keeps-refl w
   no_image_reported w fault plain may is = (may is, inl (Keeps-refl w))
@@ -492,6 +496,7 @@ module _ (job : WhereJob) (image : List ℕ) where
 
     left_ends : (fault : CommandFault) → LeavesPlaced job image old new fault → DoesWhere job old new (Err fault)
     left_ends NotWhole (is, left) = absurd (cc is)
+    left_ends LeftOut (is, left) = absurd (cc is)
     left_ends (Refused refusal) (keeps, is) = (keeps, (image, inr is))
     left_ends (Dos refusal) (is, left) = absurd (cc is)
     left_ends Memory left = (tt, some_report left)

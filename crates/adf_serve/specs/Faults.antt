@@ -8,7 +8,7 @@ use Rattle.adf_text.specs.Letters.{letters as letter_text}
 use Rattle.adf_export.specs.declared.fault.OutFault.{OutFault}
 use Rattle.adf_export.specs.declared.fault.OutFault.TheVariants as out
 use Rattle.adf_serve.specs.declared.fault.CommandFault.{CommandFault}
-use Rattle.adf_serve.specs.declared.fault.CommandFault.TheVariants.{Bitmap, Blocks, Dos, Extracted, Letter, LongBoot, Memory, Name, NoBlock, ImagesRefused, NotWhole, OtherVolume, Output, Refused, Script, Undelete}
+use Rattle.adf_serve.specs.declared.fault.CommandFault.TheVariants.{Bitmap, Blocks, Dos, Extracted, Letter, LongBoot, Memory, Name, NoBlock, ImagesRefused, LeftOut, NotWhole, OtherVolume, Output, Refused, Script, Undelete}
 use Rattle.adf_archive.specs.Words.{kind_word}
 use Rattle.adf_serve.specs.Refusals.{IsImageRefusal, IsSizeRefusal, told_line}
 
@@ -45,6 +45,7 @@ IsToldOut fault told = IsNoImageRefusal told
 -- bytes are refused for their number, or no image was read
 abbrev pub IsNoImage : CommandFault → Type 0
 IsNoImage NotWhole = ⊥
+IsNoImage LeftOut = ⊥
 IsNoImage (Extracted fault) = ⊥
 IsNoImage (Undelete why) = ⊥
 IsNoImage (Refused refusal) = (bytes : List ℕ) × IsSizeRefusal bytes refusal
@@ -81,4 +82,5 @@ status_of (OtherVolume image fault) = 3
 status_of Script = 3
 status_of ImagesRefused = 3
 status_of NotWhole = 3
+status_of LeftOut = 3
 status_of fault = 2

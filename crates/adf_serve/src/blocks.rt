@@ -4,7 +4,7 @@ ghost use Rattle.adf_block.specs.Image.{block_count};
 ghost use Rattle.ados_model.specs.Accepted.{Accepts};
 ghost use Rattle.adf_serve.specs.Commands.{TellsOf};
 ghost use Rattle.adf_serve.specs.Faults.{IsNoRefusal};
-ghost use Rattle.adf_serve.specs.declared.fault.CommandFault.TheVariants.{NotWhole};
+ghost use Rattle.adf_serve.specs.declared.fault.CommandFault.TheVariants.{LeftOut, NotWhole};
 ghost use Rattle.adf_io.specs.Prefix.{Writes};
 ghost use Rattle.adf_serve.specs.Placed.{DoesWhere, IsPlacedIn, LeavesPlaced};
 ghost use Rattle.adf_serve.specs.Refusals.{IsImageRefusal};
@@ -139,6 +139,7 @@ fn tell_placed<'a, W: Write, F: Write>(
 fn no_block<'a>(alloc: Global, fault: WhereFault, file: &'a str, blocks: u32) -> CommandFault<'a>
     ensures plain { IsNoRefusal result }
     ensures other { result ≢ NotWhole }
+    ensures all { result ≢ LeftOut }
 {
     match fault {
         WhereFault::NoBlock(word) => match word.text(alloc) {

@@ -1,6 +1,6 @@
 //! The commands that change an image file.
 ghost use Rattle.std.specs.Prelude.{IfErr};
-ghost use Rattle.adf_serve.specs.Faults.{IsNoRefusal};
+ghost use Rattle.adf_serve.specs.Faults.{IsNoImage, IsNoRefusal};
 ghost use Rattle.adf_serve.specs.NewImages.{PutsImage, out_of};
 
 use crate::explaining::explained;
@@ -67,7 +67,8 @@ pub(crate) fn given_or_now<'a, R: Clock>(
     rt: &R,
     given: Option<Date3>,
 ) -> Result<Date3, CommandFault<'a>>
-    ensures { IfErr result IsNoRefusal }
+    ensures no_refusal { IfErr result IsNoRefusal }
+    ensures no_image { IfErr result IsNoImage }
 {
     match given {
         Some(moment) => Ok(moment),

@@ -85,6 +85,11 @@ pub enum CommandFault<'a> {
     NotChecked,
     #[error("not all is whole")]
     NotWhole,
+    #[error("not all is in the new image")]
+    LeftOut,
+    /// What was made is not what was planned.
+    #[error("the new image is not written: it is not as it was to be")]
+    Unlike,
 }
 
 impl fmt::Debug for CommandFault<'_> {
@@ -125,7 +130,9 @@ impl Drop for CommandFault<'_> {
             | CommandFault::Script
             | CommandFault::ImagesRefused
             | CommandFault::NotChecked
-            | CommandFault::NotWhole => {}
+            | CommandFault::NotWhole
+            | CommandFault::LeftOut
+            | CommandFault::Unlike => {}
         }
     }
 }
@@ -177,7 +184,8 @@ impl<'a> CommandFault<'a> {
             | CommandFault::OtherVolume(_, _)
             | CommandFault::Script
             | CommandFault::ImagesRefused
-            | CommandFault::NotWhole => 3,
+            | CommandFault::NotWhole
+            | CommandFault::LeftOut => 3,
             _ => 2,
         }
     }

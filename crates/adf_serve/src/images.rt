@@ -95,7 +95,8 @@ pub(crate) fn write_image<'a, R: Files<File = File> + PromptFiles>(
     file: &'a str,
     held: Option<&HeldFile>,
 ) -> Result<(), CommandFault<'a>>
-    ensures { IfErr result IsNoRefusal }
+    ensures no_refusal { IfErr result IsNoRefusal }
+    ensures no_image { IfErr result IsNoImage }
 {
     match replace_file(rt, alloc, file, held, image, behind) {
         Ok(()) => Ok(()),
@@ -259,7 +260,7 @@ fn goes_to_output(target: Rewrite<'_>) -> bool
 
 /// Refuses to write over a regular file that is neither empty nor begins as an image does. One that cannot be read may be
 /// precious too.
-fn refuse_no_image<'a, R: Files<File = File> + PromptFiles>(
+pub(crate) fn refuse_no_image<'a, R: Files<File = File> + PromptFiles>(
     rt: &R,
     out: &'a str,
     held: Option<&mut HeldFile>,

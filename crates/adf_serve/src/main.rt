@@ -28,6 +28,7 @@ mod map;
 mod moving;
 mod query;
 mod rescue;
+mod rescue_out;
 
 // Commands that make an image, or change one.
 mod blank;

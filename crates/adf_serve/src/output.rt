@@ -114,7 +114,7 @@ fn refuse<'a, W: Write>(
 }
 
 /// Prints a fault, unless the output has it already: refused images, faulty scripts, and the results of `check` and of
-/// `extract --damaged`.
+/// `extract --damaged`, and what a new image has not.
 fn tell_fault<F: Write>(fault: &CommandFault<'_>, faults: &mut F) {
     if !matches!(
         fault,
@@ -123,6 +123,7 @@ fn tell_fault<F: Write>(fault: &CommandFault<'_>, faults: &mut F) {
             | CommandFault::ImagesRefused
             | CommandFault::NotChecked
             | CommandFault::NotWhole
+            | CommandFault::LeftOut
     ) {
         print_line(faults, format_args!("adf_serve: {fault}"));
     }

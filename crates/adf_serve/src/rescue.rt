@@ -9,19 +9,21 @@ use crate::boot::tell_boot;
 use crate::fault::CommandFault;
 use crate::images::{read_image, unread};
 use crate::kind_line::tell_kind;
+use crate::rescue_out::{hold_out, write_out};
 use adf_block::Image;
 use adf_cli::{ImageFile, SalvageJob};
 use adf_host::{PromptFiles, read_filled_file};
 use adf_io::{Filled, PrintFault, write_output};
 use adf_record::Grouped;
-use adf_rescue::{Rescue, RescueFault, extract_damaged};
+use adf_rescue::{Doubt, Rescue, RescueFault, extract_damaged};
 use adf_text::print_line;
 use std::alloc::Global;
 use std::fs::File;
 use std::io::Write;
-use std::rt::Files;
+use std::rt::{Clock, Files};
 
-/// Writes what can be told of an image file to files and directories of the host, unless the job only lists, and reports on it.
+/// Writes what can be told of an image file to files and directories of the host, unless the job only lists, or to a new image, and
+/// reports on it.
 pub(crate) fn take_rescue<'a, R, W, F>(
     rt: &R,
     alloc: Global,
@@ -30,17 +32,19 @@ pub(crate) fn take_rescue<'a, R, W, F>(
     faults: &mut F,
 ) -> Result<(), CommandFault<'a>>
 where
-    R: Files<File = File> + PromptFiles,
+    R: Files<File = File> + PromptFiles + Clock,
     W: Write,
     F: Write,
     ensures { DoesRescue job.now (W.contents writer.old) (W.contents writer.new) result }
 {
+    let out = hold_out(rt, job)?;
     let (image, holes) = read_holed(rt, alloc, job, faults)?;
     tell_boot(&image, faults);
     let boot = image.boot_kind();
     let rescue = rescue_of(rt, alloc, image, holes, job)?;
     tell_kind(boot, rescue.format(), faults);
-    tell_rescue(alloc, &rescue, job, writer, faults)
+    let all = write_out(rt, alloc, &rescue, out, faults)?;
+    tell_rescue(alloc, &rescue, job, all, writer, faults)
 }
 
 /// The image of a job, and its holes: blocks of which the file lacks bytes, and those that the list of bad blocks names.
@@ -106,11 +110,12 @@ fn tell_missing<F: Write>(path: &str, blocks: u32, filled: &Filled, faults: &mut
 }
 
 /// Reports on a rescue, and prints on `faults` what `whole` means in FFS, why entries are doubtful or cut short, which bytes of files are
-/// missing, and which used blocks belong to nothing.
+/// missing, and which used blocks belong to nothing. `all` says whether all that was saved is in a new image, if one was asked for.
 fn tell_rescue<'a, W: Write, F: Write>(
     alloc: Global,
     rescue: &Rescue,
     job: &SalvageJob<'a>,
+    all: bool,
     writer: &mut W,
     faults: &mut F,
 ) -> Result<(), CommandFault<'a>>
@@ -120,7 +125,8 @@ fn tell_rescue<'a, W: Write, F: Write>(
     tell_doubts(alloc, rescue, faults);
     tell_unaccounted(alloc, rescue, faults);
     match rescue.tell(alloc, job.json, writer) {
-        Ok(true) => Ok(()),
+        Ok(true) if all => Ok(()),
+        Ok(true) => Err(CommandFault::LeftOut),
         Ok(false) => Err(CommandFault::NotWhole),
         Err(PrintFault::Write) => Err(CommandFault::Output),
         Err(PrintFault::Memory) => Err(CommandFault::Memory),
@@ -143,13 +149,23 @@ fn tell_sums<F: Write>(rescue: &Rescue, faults: &mut F) {
 fn tell_doubts<F: Write>(alloc: Global, rescue: &Rescue, faults: &mut F) {
     for place in 0..rescue.len() {
         if let Ok(Some((path, doubt))) = rescue.doubt_at(alloc, place) {
-            let (path, word, reason) = (path.as_str(), doubt.word(), doubt.reason());
-            print_line(
-                faults,
-                format_args!("adf_serve: '{path}' is {word}: {reason}"),
-            );
+            tell_doubt(alloc, rescue, path.as_str(), doubt, faults);
         }
         tell_missing_at(alloc, rescue, place, faults);
+    }
+}
+
+/// Prints why the entry with this path is doubtful or cut short.
+fn tell_doubt<F: Write>(alloc: Global, rescue: &Rescue, path: &str, doubt: Doubt, faults: &mut F) {
+    let Ok(other) = rescue.other_path(alloc, Some(doubt)) else {
+        return;
+    };
+    if let Ok(reason) = doubt.reason(alloc, other.as_str()) {
+        let (word, reason) = (doubt.word(), reason.as_str());
+        print_line(
+            faults,
+            format_args!("adf_serve: '{path}' is {word}: {reason}"),
+        );
     }
 }
 

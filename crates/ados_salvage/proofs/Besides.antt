@@ -1,9 +1,14 @@
 -- The sound headers among the lost blocks of an accepted image are found.
-use Rattle.ados_salvage.proofs.Common.{◌≡◌, ◌≢◌, ℕ, inl, Bool, true, false, length, All, AllPairs, Contains, List, ◌++◌, sym, ap, ◌∙◌, subst, arith, get_or, AreAllHeaders, AreApart, AreGathered, AreGatheredBy, FindsLost, Gathered, IsHole, IsReadable, Known, Piece, Salvaged, Saved, broken_total, headers_of}
+use Rattle.ados_salvage.proofs.Common.{◌≡◌, ◌≢◌, ℕ, ◌<◌, ◌≤◌, inl, inr, Bool, true, false, length, All, AllPairs, Contains, List, ◌++◌, sym, ap, ◌∙◌, subst, arith, get_or, AreAllHeaders, AreApart, AreGathered, AreGatheredBy, FindsLost, Gathered, IsHole, IsReadable, Known, Piece, Salvaged, Saved, broken_total, headers_of}
 use Rattle.std.proofs.lemmas.List.Elements.{All-append}
 use Rattle.ados_salvage.specs.Found.{AreHidden, IsLostHeader}
 use Rattle.ados_salvage.specs.Known.{AreKnown}
-use Rattle.ados_salvage.specs.Salvaged.{IsSalvaged}
+use Rattle.std.proofs.lemmas.Bool.{cases_lt}
+use Rattle.std.proofs.lemmas.List.{get_or_append_left}
+use Rattle.ados_salvage.specs.Due.{IsDue}
+use Rattle.ados_salvage.specs.Missing.{TellsMissing}
+use Rattle.ados_salvage.specs.Salvaged.{AreDue, IsSalvaged}
+use Rattle.ados_salvage.specs.Saved.{IsAt}
 use Rattle.ados_salvage.specs.steps.Finding.{AddsLost}
 use Rattle.ados_salvage.specs.steps.Gathering.{AddsFound}
 use Rattle.ados_salvage.proofs.Reading.{salvaged_readable}
@@ -17,7 +22,7 @@ gathered_tree known gathered count sure before g = record {
 }
 
 module _ (known : Known) (old new : Gathered) (by : AreGatheredBy known new) (all : AreAllHeaders known new.places.items) (adds : AddsFound known old new) (hidden : AreHidden known.image known.left_out)
-    (reached : All (λ (entry : Salvaged). entry.found ≡ false) old.entries.items) where
+    (reached : All (λ (entry : Salvaged). entry.found ≡ false) old.entries.items) (many : known.before ≡ length old.entries.items) where
   -- an entry that is found has the fields of its header
   told_found : All (λ (entry : Salvaged). entry.found ≡ true → IsSalvaged known.left_out known.holes.items known.image entry) new.entries.items
   told_found = subst (All (λ (entry : Salvaged). entry.found ≡ true → IsSalvaged known.left_out known.holes.items known.image entry)) (sym adds.added)
@@ -36,6 +41,40 @@ module _ (known : Known) (old new : Gathered) (by : AreGatheredBy known new) (al
       (subst (λ (marks : List Bool). All (λ (entry : Salvaged). entry.found ≡ true → IsSalvaged known.left_out marks known.image entry) found) (sym h)
       (subst (All (λ (entry : Salvaged). entry.found ≡ true → IsSalvaged known.left_out known.holes.items known.image entry)) (sym e) told_found))
 
+  -- a found entry is behind those of the tree, and says how many of its blocks are missing
+  found_behind : (place : ℕ) (entry : Salvaged) → place < length new.entries.items → IsAt new.entries.items place entry → entry.found ≡ true → known.before ≤ place
+  found_behind place entry inside at is = elim (cases_lt place (length old.entries.items)) [
+    | inl l ↦
+        (let same : get_or old.entries.items place entry ≡ entry =
+        sym (get_or_append_left old.entries.items adds.found entry place l) ∙ ap (λ (xs : List Salvaged). get_or xs place entry) (sym adds.added) ∙ at in
+        let never : true ≡ false = sym is ∙ ap (λ (x : Salvaged). x.found) (sym same) ∙ reached place entry l in
+        absurd (cc never))
+    | inr l ↦ omega (arith, l, many)
+  ]
+
+  due_in : (s : Saved) → s.image ≡ known.image → s.entries ≡ new.entries.items → s.given ≡ new.giving.pieces.items → AreDue s
+  due_in s i e p = record {
+    within = λ k d l.
+        subst (λ (found : List Salvaged). (get_or s.given k d).place < length found) (sym e)
+        (subst (λ (given : List Piece). (get_or given k d).place < length new.entries.items) (sym p) (by.so_far.counted.within k d (subst (λ (given : List Piece). k < length given) p l)));
+    due = λ k d l entry at.
+        subst (λ (image : List ℕ). IsDue image entry.header (get_or s.given k d).at (get_or s.given k d).block) (sym i)
+        (subst (λ (given : List Piece). IsDue known.image entry.header (get_or given k d).at (get_or given k d).block) (sym p)
+        (by.so_far.counted.due k d (subst (λ (given : List Piece). k < length given) p l) entry
+        (subst (λ (given : List Piece). IsAt new.entries.items (get_or given k d).place entry) p (subst (λ (found : List Salvaged). IsAt found (get_or s.given k d).place entry) e at))));
+  }
+
+  missing_in_found : (s : Saved) → s.image ≡ known.image → s.entries ≡ new.entries.items → s.given ≡ new.giving.pieces.items → (place : ℕ) (entry : Salvaged) → place < length s.entries → IsAt s.entries place entry
+      → entry.found ≡ true → TellsMissing s.image s.given place entry.header entry.state
+  missing_in_found s i e p place entry inside at is =
+      let there : place < length new.entries.items = omega (arith, inside, ap length e) in
+      let same : IsAt new.entries.items place entry = subst (λ (xs : List Salvaged). IsAt xs place entry) e at in
+      let told : IsSalvaged known.left_out known.holes.items known.image entry =
+      subst (λ (x : Salvaged). IsSalvaged known.left_out known.holes.items known.image x) same (told_found place entry there (ap (λ (x : Salvaged). x.found) same ∙ is)) in
+      subst (λ (image : List ℕ). TellsMissing image s.given place entry.header entry.state) (sym i)
+      (subst (λ (given : List Piece). TellsMissing known.image given place entry.header entry.state) (sym p)
+      (by.so_far.counted.counted place entry (found_behind place entry there same is) there same told.header))
+
   pub finds_lost : (s : Saved) → s.image ≡ known.image → s.entries ≡ new.entries.items → s.given ≡ new.giving.pieces.items → s.holes ≡ known.holes.items → FindsLost s
   finds_lost s i e p h = record {
     out = known.left_out;
@@ -46,6 +85,8 @@ module _ (known : Known) (old new : Gathered) (by : AreGatheredBy known new) (al
     apart = subst AreApart (sym p) by.so_far.giving.once;
     there = subst (All (λ (piece : Piece). ¬ IsHole s.holes piece.block)) (sym p) (subst (λ (holes : List Bool). All (λ (piece : Piece). ¬ IsHole holes piece.block) new.giving.pieces.items) (sym h) by.so_far.giving.there);
     bounded = omega (arith, by.so_far.bounded, ap broken_total e, ap length i);
+    missing = λ place entry inside at is. missing_in_found s i e p place entry inside at is;
+    due = due_in s i e p;
   }
 
   -- the salvage of the tree, with what is found behind its entries

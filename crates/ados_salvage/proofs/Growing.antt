@@ -2,7 +2,10 @@
 use Rattle.ados_salvage.proofs.Common.{◌≡◌, ◌≢◌, ℕ, ◌+◌, ◌*◌, ◌<◌, ◌≤◌, inl, inr, All, List, [], ◌∷◌, ◌++◌, length, slice_index, get_or-set_same, get_or-set_other, length-set, Contains, Option, None, Some, IsSome, is_some, refl, sym, ap, ◌∙◌, subst, arith, set, cases_lt, cases_eq, drop, get_or_append_left, get_or_push, length-append, length-map, map-append, All-nil, All-push, Contains-append_left, Contains-append_right, block_count, text_at, NAME_BYTE, Gathered, Known, Salvaged, Lost, IsLost, IsLostEntry, IsTold, broken_length, broken_total, headers_of, IsGiving, AreGathered, AreGatheredBy, GathersMore, place_at, Bool}
 use Rattle.ados_name.specs.Name.{IsName}
 use Rattle.std.proofs.lemmas.List.{drop-append-le, drop_all}
+use Rattle.ados_salvage.specs.Missing.{TellsMissing}
+use Rattle.ados_salvage.specs.steps.Counting.{AreCounted, GivesMore, HasNone}
 use Rattle.ados_salvage.specs.steps.Finding.{AreOfOneTree}
+use Rattle.ados_salvage.proofs.MissingBlocks.{counts_more, counts_none}
 use Rattle.ados_salvage.specs.steps.Gathering.{ArePlacesOf}
 
 -- the bytes of broken files, with one more entry
@@ -26,8 +29,8 @@ no_tree image found none = subst (AreOfOneTree image) (sym none) (record {
 
 -- only the entries of a tree are there
 pub gathers_none : (out : List ℕ) (holes : List Bool) (image : List ℕ) (tree : List Salvaged) (g : Gathered) → g.entries.items ≡ tree → AreOfOneTree image tree → ArePlacesOf image tree g.places.items
-    → IsGiving holes image g.giving → g.giving.left ≤ 4 * length image → AreGathered (length tree) out holes image g
-gathers_none out holes image tree g entries of places giving share = record {
+    → IsGiving holes image g.giving → g.giving.left ≤ 4 * length image → g.giving.pieces.items ≡ [] → AreGathered (length tree) out holes image g
+gathers_none out holes image tree g entries of places giving share none = record {
   behind = omega (arith, ap length entries);
   told = subst (All (IsTold out holes image)) (sym (ap (drop (length tree)) entries ∙ drop_all (length tree) tree (omega arith))) (All-nil (IsTold out holes image));
   size = places.size;
@@ -35,6 +38,7 @@ gathers_none out holes image tree g entries of places giving share = record {
   met = subst (λ (es : List Salvaged). (block : ℕ) → IsSome (place_at g.places.items block) → Contains (headers_of es) block) (sym entries) places.met;
   giving = giving;
   bounded = omega (arith, share, ap broken_total entries, of.whole);
+  counted = subst (λ (n : ℕ). AreCounted n out image g.entries.items g.giving.pieces.items) (ap length entries) (counts_none out image g.entries.items g.giving.pieces.items none);
 }
 
 module _ (known : Known) (old new : Gathered) (by : AreGatheredBy known old) (e : Salvaged) (block : ℕ) (told : IsTold known.left_out known.holes.items known.image e) (is : e.header ≡ block) (below : block < block_count known.image)
@@ -56,8 +60,9 @@ module _ (known : Known) (old new : Gathered) (by : AreGatheredBy known old) (e 
 
   -- one more entry, whose state takes its share
   pub gathers_more : (place : ℕ) → new.entries.items ≡ old.entries.items ++ e ∷ [] → new.places.items ≡ set old.places.items block (Some place) → place ≡ length old.entries.items
-      → IsGiving known.holes.items known.image new.giving → broken_length e.state + new.giving.left ≡ old.giving.left → GathersMore known old new × IsSome (place_at new.places.items block)
-  gathers_more place grown noted at giving share =
+      → IsGiving known.holes.items known.image new.giving → broken_length e.state + new.giving.left ≡ old.giving.left → GivesMore known.image block place old.giving.pieces.items new.giving.pieces.items
+      → (HasNone old.giving.pieces.items place → TellsMissing known.image new.giving.pieces.items place e.header e.state) → GathersMore known old new × IsSome (place_at new.places.items block)
+  gathers_more place grown noted at giving share gives tells =
       let more_headers : headers_of new.entries.items ≡ headers_of old.entries.items ++ block ∷ [] =
       ap headers_of grown ∙ map-append (λ (entry : Salvaged). entry.header) old.entries.items (e ∷ []) ∙ ap (λ (b : ℕ). headers_of old.entries.items ++ b ∷ []) is in
       let here : place_at new.places.items block ≡ Some place = ap (λ (ps : List (Option ℕ)). place_at ps block) noted ∙ now_met place in
@@ -85,6 +90,10 @@ module _ (known : Known) (old new : Gathered) (by : AreGatheredBy known old) (e 
         ]);
         giving = giving;
         bounded = omega (arith, g.bounded, share, ap broken_total grown, broken_more old.entries.items e);
+        counted = counts_more known.before known.left_out known.image old.entries.items new.entries.items old.giving.pieces.items new.giving.pieces.items g.counted e grown
+            (subst (λ (n : ℕ). GivesMore known.image e.header n old.giving.pieces.items new.giving.pieces.items) at
+            (subst (λ (h : ℕ). GivesMore known.image h place old.giving.pieces.items new.giving.pieces.items) (sym is) gives))
+            (λ header. subst (λ (n : ℕ). TellsMissing known.image new.giving.pieces.items n e.header e.state) at (tells (λ k d l z. omega (arith, g.counted.within k d l, z, at))));
       } in (
         (
           record { sure = by.sure; so_far = gathered },

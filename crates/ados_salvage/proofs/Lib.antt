@@ -8,6 +8,8 @@ pub mod Finding
 pub mod Following
 pub mod Answering
 pub mod Marked
+pub mod DueBlocks
+pub mod MissingBlocks
 pub mod Reading
 pub mod Saving
 pub mod Besides

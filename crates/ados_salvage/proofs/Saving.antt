@@ -1,4 +1,5 @@
 -- The entries of all sound headers, and what can be read of them.
+use Rattle.ados_salvage.specs.Doubtful.{IsHeader}
 use Rattle.ados_salvage.proofs.Common.{◌≡◌, ◌≢◌, ℕ, ◌<◌, inl, inr, false, All, AllPairs, Bool, List, drop, IsTold, length, slice_index, Some, IsSome, sym, ap, ◌∙◌, subst, arith, get_or_default, Gathered, Known, IsLost, AreDeleted, AreSalvaged, SavesSound, headers_of, AreAllHeaders, AreGathered, place_at, AreSettled}
 
 -- no two entries have one header
@@ -32,4 +33,6 @@ saves_sound known next gathered deleted s are is = record {
   apart = s.giving.once;
   there = s.giving.there;
   bounded = omega (arith, s.bounded);
+  missing = λ place entry inside at told. s.counted.counted place entry (omega arith) inside at (subst (λ (out : List ℕ). IsHeader out known.image entry.header) is told);
+  due = record { within = s.counted.within; due = s.counted.due };
 }

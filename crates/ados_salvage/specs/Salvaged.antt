@@ -1,5 +1,5 @@
 -- The descriptions of an image's entries.
-use Rattle.std.specs.Prelude.{◌≡◌, ◌≢◌, ℕ, zero, suc, ◌+◌, ◌*◌, ◌≤◌, ◌⊎◌, Bool, MatchBool, List, [], ◌∷◌, ◌++◌, decimal, length, All, AllPairs, Contains, map, None, Some, true, false, ⊤}
+use Rattle.std.specs.Prelude.{◌≡◌, ◌≢◌, ℕ, zero, suc, ◌+◌, ◌*◌, ◌<◌, ◌≤◌, ◌⊎◌, Bool, MatchBool, List, [], ◌∷◌, ◌++◌, decimal, length, All, AllPairs, Contains, map, None, Some, true, false, ⊤}
 use Rattle.adf_block.specs.Fields.{protection}
 use Rattle.adf_block.specs.Image.{byte_at}
 use Rattle.adf_block.specs.declared.layout.TheConstants.{COMMENT_BYTE, DATE, NAME_BYTE}
@@ -24,9 +24,12 @@ use Rattle.ados_salvage.specs.declared.salvaged.HeaderState.TheVariants as heads
 use Rattle.ados_salvage.specs.declared.salvaged.Salvaged.{Salvaged}
 use Rattle.ados_salvage.specs.declared.salvaged.State.{State}
 use Rattle.ados_salvage.specs.declared.salvaged.State.TheVariants as states
+use Rattle.ados_salvage.specs.Due.{IsDue}
 use Rattle.ados_salvage.specs.Kind.{IsReadAs}
 use Rattle.ados_salvage.specs.Loose.{IsLeft}
 use Rattle.ados_salvage.specs.Lost.{IsLost}
+use Rattle.ados_salvage.specs.Missing.{TellsMissing}
+use Rattle.ados_salvage.specs.Saved.{IsAt}
 
 -- how contracts see a salvage: whether the image was accepted, the image as it was read, whether its bitmap is trusted, its
 -- entries, the headers that were left out, the blocks given to files that are not whole, and the marks of the holes
@@ -165,8 +168,14 @@ pub record AreOfTree (t : Tree) (saved : Saved) : Type 0 where
 abbrev pub AreApart : List Piece → Type 0
 AreApart given = AllPairs (λ piece other. piece.block ≢ other.block) given
 
+-- each block is given to an entry, and due to its file
+pub record AreDue (saved : Saved) : Type 0 where
+  pub within : All (λ piece. piece.place < length saved.entries) saved.given
+  pub due : All (λ piece. (entry : Salvaged) → IsAt saved.entries piece.place entry → IsDue saved.image entry.header piece.at piece.block) saved.given
+
 -- the bitmap is trusted or not. The deleted entries are left out, and the entries are all others that are told; no block is given to two files, and no hole
--- to any; and all files that are not whole have together at most four times the bytes of the image
+-- to any, and each is due to its file; each file that is not whole says how many of its blocks are missing, if its header is told; and all these files have together at
+-- most four times the bytes of the image
 pub record SavesSound (saved : Saved) : Type 0 where
   pub trust : TellsTrust saved.image saved.trusted
   pub deleted : AreDeleted saved.image saved.deleted
@@ -174,10 +183,13 @@ pub record SavesSound (saved : Saved) : Type 0 where
   pub apart : AreApart saved.given
   pub there : All (λ piece. ¬ IsHole saved.holes piece.block) saved.given
   pub bounded : broken_total saved.entries ≤ 4 * length saved.image
+  pub missing : (place : ℕ) (entry : Salvaged) → place < length saved.entries → IsAt saved.entries place entry → IsHeader saved.deleted saved.image entry.header
+      → TellsMissing saved.image saved.given place entry.header entry.state
+  pub due : AreDue saved
 
 -- beside its tree, the entries of an accepted image are the sound headers among its lost blocks, found. Where hidden headers are
--- left out, each has its fields. No block is given to two files, and no hole to any; and the files that are not whole have together at
--- most four times the bytes of the image
+-- left out, each has its fields. No block is given to two files, and no hole to any, and each is due to its file; the files that are not whole say how many of their
+-- blocks are missing, and have together at most four times the bytes of the image
 pub record FindsLost (saved : Saved) : Type 0 where
   pub out : List ℕ
   pub hidden : AreHidden saved.image out
@@ -187,6 +199,9 @@ pub record FindsLost (saved : Saved) : Type 0 where
   pub apart : AreApart saved.given
   pub there : All (λ piece. ¬ IsHole saved.holes piece.block) saved.given
   pub bounded : broken_total saved.entries ≤ 4 * length saved.image
+  pub missing : (place : ℕ) (entry : Salvaged) → place < length saved.entries → IsAt saved.entries place entry → entry.found ≡ true
+      → TellsMissing saved.image saved.given place entry.header entry.state
+  pub due : AreDue saved
 
 -- no entry is found
 abbrev pub FindsNone : Saved → Type 0

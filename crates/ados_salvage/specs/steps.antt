@@ -5,6 +5,7 @@ pub mod Finding
 pub mod Keeping
 pub mod Undeleting
 pub mod Settling
+pub mod Counting
 pub mod Accounting
 pub mod Parts
 pub mod Claims

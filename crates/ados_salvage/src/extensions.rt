@@ -1,8 +1,9 @@
 //! Files of an FFS disk whose header is gone, from the extension blocks that name it.
-ghost use Rattle.std.specs.Prelude.{◌≡◌, ◌<◌, ℕ, IfOk, IfSome, IsTrue, OnOk};
+ghost use Rattle.std.specs.Prelude.{◌≡◌, ◌<◌, ℕ, IfOk, IfSome, IsTrue, MatchOption, OnOk, ⊤};
 ghost use Rattle.adf_block.specs.Image.{block_count};
 ghost use Rattle.ados_salvage.specs.Known.{AreKnown};
 ghost use Rattle.ados_salvage.specs.Loose.{IsLooseExtension};
+ghost use Rattle.ados_salvage.specs.steps.Counting.{GivesMore};
 ghost use Rattle.ados_salvage.specs.steps.Giving.{IsGiving};
 
 use crate::giving::{Giving, Piece, Remains};
@@ -208,38 +209,47 @@ pub(crate) fn give_listed(
     ensures named { IfOk result (λ remains. IfSome remains (λ some. (block : ℕ) × IsLooseExtension known.now.image header block)) }
     ensures giving { OnOk result (IsGiving known.now.holes.items known.now.image giving.new) }
     ensures left { giving.new.left ≡ giving.old.left }
+    ensures more { OnOk result (GivesMore known.now.image header place giving.old.pieces.items giving.new.pieces.items) }
+    ensures none { IfOk result (λ remains. MatchOption remains (giving.new.pieces.items ≡ giving.old.pieces.items) (λ some. ⊤)) }
 {
     let image = &known.image;
     let mut taken = Taken { there: 0, last: 0 };
     let mut last: Option<Part> = None;
     for part in parts {
         if is_loose_extension(image, header, part.block) {
-            taken = give_pointers(known, place, *part, taken, giving)?;
+            taken = give_pointers(known, header, place, *part, taken, giving)?;
             last = Some(*part);
         }
     }
+    if taken.there == 0 {
+        return Ok(None);
+    }
     match last {
-        Some(last) if taken.there > 0 => Ok(Some(remains_of(image, last, taken))),
-        _ => Ok(None),
+        Some(last) => Ok(Some(remains_of(image, last, taken))),
+        None => Ok(None),
     }
 }
 
-/// Gives a file the data blocks that an extension block of it names. The result is what the file has then.
+/// Gives a file the data blocks that an extension block of it names. It has these from earlier ones,
+/// and the result is what it has then.
 fn give_pointers(
     known: &Known,
+    header: u32,
     place: usize,
     part: Part,
-    taken: Taken,
+    earlier: Taken,
     giving: &mut Giving,
 ) -> Result<Taken, AllocError>
-    requires inside { part.block < block_count known.now.image }
+    requires loose { IsLooseExtension known.now.image header part.block }
     requires giving { IsGiving known.now.holes.items known.now.image giving.old }
     ensures giving { OnOk result (IsGiving known.now.holes.items known.now.image giving.new) }
     ensures left { giving.new.left ≡ giving.old.left }
+    ensures more { OnOk result (GivesMore known.now.image header place giving.old.pieces.items giving.new.pieces.items) }
+    ensures none { IfOk result (λ taken. taken.there ≡ 0 → (earlier.there ≡ 0) × (giving.new.pieces.items ≡ giving.old.pieces.items)) }
 {
     let image = &known.image;
     let before = part.number.saturating_mul(TABLE_LONGS);
-    let mut taken = taken;
+    let mut taken = earlier;
     for i in 0..image.long(part.block, POINTER_COUNT).min(TABLE_LONGS) {
         let block = image.long(part.block, FIRST_POINTER - i);
         if block >= BOOT_BLOCKS && giving.is_open(block) {

@@ -1,11 +1,16 @@
 //! The blocks given to files that are not whole, each to one.
-ghost use Rattle.std.specs.Prelude.{◌≡◌, ◌<◌, ◌≤◌, ◌*◌, ℕ, Bool, List, length, IfOk, IfSome, IsTrue, OnOk};
+ghost use Rattle.std.specs.Prelude.{◌≡◌, ◌<◌, ◌≤◌, ◌*◌, ◌++◌, ◌∷◌, [], ℕ, Bool, List, if◌then◌else◌, length, IfOk, IfSome, IsTrue, OnOk};
 ghost use Rattle.adf_block.specs.Fields.{format_of};
+ghost use Rattle.adf_block.specs.declared.layout.Format.TheVariants.{Ofs};
+ghost use Rattle.ados_salvage.specs.Doubtful.{IsOwnData};
 ghost use Rattle.adf_block.specs.Image.{block_count};
 ghost use Rattle.ados_model.specs.Tree.{data_start};
+ghost use Rattle.ados_salvage.specs.Due.{CountsAsExtension, IsDue, IsPointerBlock, right_fields};
+ghost use Rattle.ados_salvage.specs.Missing.{missing_blocks};
+ghost use Rattle.ados_salvage.specs.steps.Counting.{GivesMore, HasNone};
 ghost use Rattle.ados_salvage.specs.steps.Giving.{AreHolesMarked, IsGiving, IsOpen};
 
-use crate::known::{Known, is_hole, is_own_data};
+use crate::known::{Known, data_needed, is_hole, is_own_data};
 use adf_block::layout::{
     BLOCK_BYTES, BOOT_BLOCKS, FILE_SIZE, FILE_TYPE, FIRST_PAGE, FIRST_POINTER, HEADER_TYPE,
     LIST_TYPE, NEXT_DATA, NEXT_EXTENSION, OFS_DATA_BYTE, OWN_KEY, PARENT, POINTER_COUNT,
@@ -66,6 +71,7 @@ impl Giving {
     pub(crate) fn new(alloc: Global, image: &Image, holes: &[bool]) -> Result<Giving, AllocError>
         ensures giving { IfOk result (IsGiving holes.now image.now) }
         ensures left { IfOk result (λ giving. giving.left ≤ 4 * length image.now) }
+        ensures none { IfOk result (λ giving. giving.pieces.items ≡ []) }
     {
         let count = image.blocks() as usize;
         let mut given = vec![in alloc; false; count]?;
@@ -91,11 +97,13 @@ impl Giving {
         requires giving { IsGiving known.now.holes.items known.now.image self.old }
         ensures giving { OnOk result (IsGiving known.now.holes.items known.now.image self.new) }
         ensures left { self.new.left ≡ self.old.left }
+        ensures more { OnOk result (GivesMore known.now.image file place self.old.pieces.items self.new.pieces.items) }
+        ensures missing { IfOk result (λ remains. HasNone self.old.pieces.items place → missing_blocks known.now.image self.new.pieces.items place file ≡ remains.missing) }
     {
         let image = &known.image;
         let room = BLOCK - data_start(image);
         let size = (image.long(file, FILE_SIZE) as usize).min(image.blocks() as usize * room);
-        let needed = size.div_ceil(room) as u32;
+        let needed = data_needed(image, file).min(image.blocks());
         let mut there = 0;
         let mut end = 0;
         let mut way = Way {
@@ -139,6 +147,7 @@ impl Giving {
         requires fresh { IsOpen self.old.given.items piece.block }
         ensures giving { OnOk result ((holes : List Bool) (image : List ℕ) → IsGiving holes image self.old → IsGiving holes image self.new) }
         ensures left { self.new.left ≡ self.old.left }
+        ensures pieces { OnOk result (self.new.pieces.items ≡ self.old.pieces.items ++ piece ∷ []) }
     {
         self.given[piece.block as usize] = true;
         self.pieces.push(piece)?;
@@ -151,29 +160,61 @@ impl Giving {
         requires file { file < block_count image.now }
         requires holder { IfSome way.holder (λ block. block < block_count image.now) }
         requires before { IfSome way.before (λ block. block < block_count image.now) }
+        requires holds { IfSome way.holder (IsPointerBlock image.now file) }
         requires size { length self.now.given.items ≡ block_count image.now }
-        ensures { IfSome result (IsOpen self.now.given.items) }
+        ensures open { IfSome result (IsOpen self.now.given.items) }
+        ensures due { IfSome result (IsDue image.now file i) }
     {
-        if let Some(holder) = way.holder {
-            if i % TABLE_LONGS < image.long(holder, POINTER_COUNT) {
-                let block = image.long(holder, FIRST_POINTER - i % TABLE_LONGS);
-                if self.is_piece(image, file, i, block) {
-                    return Some(block);
-                }
-            }
+        match self.pointed_at(image, file, i, way.holder) {
+            Some(block) => Some(block),
+            None => self.linked_at(image, file, i, way.before),
         }
-        let block = image.long(way.before?, NEXT_DATA);
+    }
+
+    /// Data block `i` of a file, if it was not given before: the one in its pointer.
+    fn pointed_at(&self, image: &Image, file: u32, i: u32, holder: Option<u32>) -> Option<u32>
+        requires file { file < block_count image.now }
+        requires holder { IfSome holder (λ block. block < block_count image.now) }
+        requires holds { IfSome holder (IsPointerBlock image.now file) }
+        requires size { length self.now.given.items ≡ block_count image.now }
+        ensures open { IfSome result (IsOpen self.now.given.items) }
+        ensures due { IfSome result (IsDue image.now file i) }
+    {
+        let holder = holder?;
+        let pointer = i % TABLE_LONGS;
+        if pointer >= image.long(holder, POINTER_COUNT) {
+            return None;
+        }
+        let block = image.long(holder, FIRST_POINTER - pointer);
+        if self.is_piece(image, file, i, block) {
+            Some(block)
+        } else {
+            None
+        }
+    }
+
+    /// Data block `i` of a file, if it was not given before: in OFS the one that the block before it links to.
+    fn linked_at(&self, image: &Image, file: u32, i: u32, before: Option<u32>) -> Option<u32>
+        requires file { file < block_count image.now }
+        requires before { IfSome before (λ block. block < block_count image.now) }
+        requires size { length self.now.given.items ≡ block_count image.now }
+        ensures open { IfSome result (IsOpen self.now.given.items) }
+        ensures due { IfSome result (IsDue image.now file i) }
+    {
+        let block = image.long(before?, NEXT_DATA);
         if image.format() == Format::Ofs && self.is_piece(image, file, i, block) {
-            return Some(block);
+            Some(block)
+        } else {
+            None
         }
-        None
     }
 
     /// Whether a block was not given before, and by itself can be data block `i` of a file.
     fn is_piece(&self, image: &Image, file: u32, i: u32, block: u32) -> bool
         requires file { file < block_count image.now }
         requires size { length self.now.given.items ≡ block_count image.now }
-        ensures { IsTrue result → IsOpen self.now.given.items block }
+        ensures open { IsTrue result → IsOpen self.now.given.items block }
+        ensures own { IsTrue result → format_of image.now ≡ Ofs → IsOwnData image.now file i block }
     {
         if block < BOOT_BLOCKS || block >= image.blocks() || self.given[block as usize] {
             return false;
@@ -189,8 +230,10 @@ impl Giving {
         requires holder { IfSome holder (λ block. block < block_count known.now.image) }
         requires giving { IsGiving known.now.holes.items known.now.image self.old }
         ensures holder { IfSome result (λ block. block < block_count known.now.image) }
+        ensures holds { IfSome result (IsPointerBlock known.now.image file) }
         ensures giving { IsGiving known.now.holes.items known.now.image self.new }
         ensures left { self.new.left ≡ self.old.left }
+        ensures pieces { self.new.pieces ≡ self.old.pieces }
     {
         let image = &known.image;
         let next = image.long(holder?, NEXT_EXTENSION);
@@ -211,18 +254,33 @@ impl Giving {
 /// one, and its checksum is wrong.
 fn counts_as_extension(image: &Image, file: u32, block: u32) -> bool
     requires { block < block_count image.now }
+    ensures { IsTrue result → CountsAsExtension image.now file block }
 {
-    let types = u32::from(image.long(block, PRIMARY_TYPE) == LIST_TYPE).saturating_add(u32::from(
-        image.long(block, SECONDARY_TYPE) == FILE_TYPE,
-    ));
-    let numbers = u32::from(image.long(block, OWN_KEY) == block).saturating_add(u32::from(
-        image.long(block, PARENT) == file,
-    ));
-    match types.saturating_add(numbers) {
+    match right_fields(image, file, block) {
         4 => true,
         3 => image.sum(block) != 0,
         _ => false,
     }
+}
+
+/// How many of four fields are right that an extension block of a file has: its types, its own number and its file.
+fn right_fields(image: &Image, file: u32, block: u32) -> u32
+    requires { block < block_count image.now }
+    ensures { result ≡ right_fields image.now file block }
+{
+    let types = one_if(image.long(block, PRIMARY_TYPE) == LIST_TYPE)
+        + one_if(image.long(block, SECONDARY_TYPE) == FILE_TYPE);
+    let numbers = one_if(image.long(block, OWN_KEY) == block)
+        + one_if(image.long(block, PARENT) == file);
+    types + numbers
+}
+
+/// 1 if something is so, and else 0.
+fn one_if(is: bool) -> u32
+    ensures value { result ≡ (if is then 1 else 0) }
+    ensures small { result ≤ 1 }
+{
+    if is { 1 } else { 0 }
 }
 
 /// Marks the root, and the bitmap blocks that it names if it has the type of a root.

@@ -1,16 +1,17 @@
 //! Files whose header is gone, from the OFS data blocks that name it, or from the FFS extension blocks that do.
-ghost use Rattle.std.specs.Prelude.{◌≡◌, ◌<◌, ◌≤◌, ◌+◌, ℕ, IfOk, IfSome, IsTrue, MatchOption, OnOk, length};
+ghost use Rattle.std.specs.Prelude.{◌≡◌, ◌<◌, ◌≤◌, ◌+◌, ℕ, IfOk, IfSome, IsTrue, MatchOption, OnOk, length, ⊤};
 ghost use Rattle.adf_block.specs.Image.{block_count};
 ghost use Rattle.ados_salvage.specs.Known.{AreKnown};
 ghost use Rattle.ados_salvage.specs.Loose.{IsLeft, IsLooseData};
 ghost use Rattle.ados_salvage.specs.Salvaged.{IsLoose, broken_length};
+ghost use Rattle.ados_salvage.specs.steps.Counting.{GivesMore};
 ghost use Rattle.ados_salvage.specs.steps.Giving.{IsGiving};
 ghost use Rattle.ados_salvage.specs.steps.Settling.{AreSettled};
 
 use crate::extensions::{give_listed, loose_extensions};
 use crate::gathered::Gathered;
 use crate::giving::{Giving, Piece, Remains};
-use crate::known::{Known, is_used};
+use crate::known::{Known, is_own_data, is_used};
 use crate::salvaged::{HeaderState, State};
 use crate::state::damaged;
 use adf_block::layout::{
@@ -178,6 +179,8 @@ fn loose_state(
     ensures state { IfOk result (λ state. IfSome state (IsLoose known.now.left_out known.now.image header)) }
     ensures giving { OnOk result (IsGiving known.now.holes.items known.now.image giving.new) }
     ensures left { IfOk result (λ state. MatchOption state (giving.new.left ≡ giving.old.left) (λ state. broken_length state + giving.new.left ≡ giving.old.left)) }
+    ensures more { OnOk result (GivesMore known.now.image header place giving.old.pieces.items giving.new.pieces.items) }
+    ensures none { IfOk result (λ state. MatchOption state (giving.new.pieces.items ≡ giving.old.pieces.items) (λ some. ⊤)) }
 {
     if known.is_header(header) {
         return Ok(None);
@@ -204,6 +207,8 @@ fn give(
     ensures named { IfOk result (λ remains. IfSome remains (λ some. (block : ℕ) × IsLeft known.now.image header block)) }
     ensures giving { OnOk result (IsGiving known.now.holes.items known.now.image giving.new) }
     ensures left { giving.new.left ≡ giving.old.left }
+    ensures more { OnOk result (GivesMore known.now.image header place giving.old.pieces.items giving.new.pieces.items) }
+    ensures none { IfOk result (λ remains. MatchOption remains (giving.new.pieces.items ≡ giving.old.pieces.items) (λ some. ⊤)) }
 {
     match known.image.format() {
         Format::Ofs => give_data(known, header, place, parts, giving),
@@ -224,18 +229,22 @@ fn give_data(
     ensures named { IfOk result (λ remains. IfSome remains (λ some. (block : ℕ) × IsLooseData known.now.image header block)) }
     ensures giving { OnOk result (IsGiving known.now.holes.items known.now.image giving.new) }
     ensures left { giving.new.left ≡ giving.old.left }
+    ensures more { OnOk result (GivesMore known.now.image header place giving.old.pieces.items giving.new.pieces.items) }
+    ensures none { IfOk result (λ remains. MatchOption remains (giving.new.pieces.items ≡ giving.old.pieces.items) (λ some. ⊤)) }
 {
     let image = &known.image;
     let mut there = 0_u32;
     let mut last: Option<Part> = None;
     for part in parts {
+        let at = part.number.saturating_sub(1);
         if !last.is_some_and(|last| last.number == part.number)
             && is_loose(image, header, part.block)
+            && is_own_data(image, header, at, part.block)
             && giving.is_open(part.block)
         {
             giving.note(Piece {
                 place,
-                at: part.number.saturating_sub(1),
+                at,
                 block: part.block,
             })?;
             there = there.saturating_add(1);

@@ -2,7 +2,9 @@
 ghost use Rattle.std.specs.Prelude.{◌≡◌, ◌+◌, ◌≤◌, IfOk, OnOk};
 ghost use Rattle.ados_salvage.specs.Doubtful.{IsHeader};
 ghost use Rattle.ados_salvage.specs.Known.{AreKnown};
-ghost use Rattle.ados_salvage.specs.Salvaged.{HasState, broken_length};
+ghost use Rattle.ados_salvage.specs.Missing.{TellsMissing};
+ghost use Rattle.ados_salvage.specs.Salvaged.{HasState, broken_length, missing_in};
+ghost use Rattle.ados_salvage.specs.steps.Counting.{GivesMore, HasNone};
 ghost use Rattle.ados_salvage.specs.steps.Settling.{IsDamaged};
 ghost use Rattle.ados_salvage.specs.steps.Giving.{IsGiving};
 
@@ -25,6 +27,8 @@ pub(crate) fn state_of(
     ensures state { IfOk result (HasState known.now.left_out known.now.holes.items known.now.image block) }
     ensures giving { OnOk result (IsGiving known.now.holes.items known.now.image giving.new) }
     ensures left { IfOk result (λ state. broken_length state + giving.new.left ≡ giving.old.left) }
+    ensures more { OnOk result (GivesMore known.now.image block place giving.old.pieces.items giving.new.pieces.items) }
+    ensures missing { IfOk result (λ state. HasNone giving.old.pieces.items place → TellsMissing known.now.image giving.new.pieces.items place block state) }
 {
     let image = &known.image;
     let sound = is_sound_header(image, block);
@@ -53,6 +57,7 @@ pub(crate) fn state_of(
 pub(crate) fn damaged(remains: Remains, left: usize, header: HeaderState) -> State
     ensures state { IsDamaged header result }
     ensures length { broken_length result ≤ left }
+    ensures missing { missing_in result ≡ remains.missing }
 {
     let length = remains.end.min(left);
     let cut = length < remains.end;

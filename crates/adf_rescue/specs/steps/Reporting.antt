@@ -19,7 +19,7 @@ pub record ArePrinted (rescue : Rescue) (entries : List Salvaged) (text : List �
 -- the object of an entry at some host path, if it is told, behind a comma after another object
 abbrev pub IsNextObject : Rescue → Bool → ℕ → Salvaged → List ℕ → Type 0
 IsNextObject rescue after place entry text =
-    (path : List ℕ) × (text ≡ (if is_told entry.state entry.found then print_from after (object_tokens rescue place entry (path ++ path_end entry.state)) else []))
+    (other : List ℕ) × (path : List ℕ) × (text ≡ (if is_told entry.state entry.found then print_from after (object_tokens rescue place entry other (path ++ path_end entry.state)) else []))
 
 -- in each of the forms, as lines or as an object: what is before the entries
 abbrev pub front_of : Bool → List ℕ

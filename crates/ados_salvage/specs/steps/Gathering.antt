@@ -7,6 +7,7 @@ use Rattle.ados_salvage.specs.Known.{AreKnown}
 use Rattle.ados_salvage.specs.declared.gathered.Gathered.{Gathered}
 use Rattle.ados_salvage.specs.declared.salvaged.Salvaged.{Salvaged}
 use Rattle.ados_salvage.specs.Salvaged.{IsSalvaged, IsTold, broken_total, headers_of}
+use Rattle.ados_salvage.specs.steps.Counting.{AreCounted}
 use Rattle.ados_salvage.specs.steps.Giving.{IsGiving}
 
 -- the index of a block's entry, if its header was found
@@ -38,7 +39,7 @@ abbrev pub IsNew : Known → List (Option ℕ) → ℕ → Type 0
 IsNew known places block = IsHeader known.left_out known.image block × (place_at places block ≡ None)
 
 -- the entries found so far, behind as many as were told before; the index of each header is right, and the blocks given and the bytes left
--- fit the broken files
+-- fit the broken files, which tell how many of their blocks are missing
 pub record AreGathered (before : ℕ) (out : List ℕ) (holes : List Bool) (image : List ℕ) (gathered : Gathered) : Type 0 where
   pub behind : before ≤ length gathered.entries.items
   pub told : All (IsTold out holes image) (drop before gathered.entries.items)
@@ -48,6 +49,7 @@ pub record AreGathered (before : ℕ) (out : List ℕ) (holes : List Bool) (imag
   pub met : (block : ℕ) → IsSome (place_at gathered.places.items block) → Contains (headers_of gathered.entries.items) block
   pub giving : IsGiving holes image gathered.giving
   pub bounded : broken_total gathered.entries.items + gathered.giving.left ≤ 4 * length image
+  pub counted : AreCounted before out image gathered.entries.items gathered.giving.pieces.items
 
 -- the entries gathered so far of an image, by what is known of it
 pub record AreGatheredBy (known : Known) (gathered : Gathered) : Type 0 where

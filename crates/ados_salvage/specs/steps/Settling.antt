@@ -8,6 +8,7 @@ use Rattle.ados_salvage.specs.declared.salvaged.State.{State}
 use Rattle.ados_salvage.specs.declared.salvaged.State.TheVariants as states
 use Rattle.ados_salvage.specs.Salvaged.{AreSalvaged, broken_total, headers_of}
 use Rattle.ados_salvage.specs.steps.Gathering.{place_at}
+use Rattle.ados_salvage.specs.steps.Counting.{AreCounted}
 use Rattle.ados_salvage.specs.steps.Giving.{IsGiving}
 
 -- the state of a file that is not whole and has such a header
@@ -27,3 +28,4 @@ pub record AreSettled (known : Known) (next : ℕ) (gathered : Gathered) : Type 
   pub placed : ArePlaced gathered.places.items next (headers_of gathered.entries.items)
   pub giving : IsGiving known.holes.items known.image gathered.giving
   pub bounded : broken_total gathered.entries.items + gathered.giving.left ≤ 4 * length known.image
+  pub counted : AreCounted 0 known.left_out known.image gathered.entries.items gathered.giving.pieces.items

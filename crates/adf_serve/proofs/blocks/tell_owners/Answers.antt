@@ -12,5 +12,5 @@ returns-in-Ok g c = λ image accepts marks.
 pub returns-in-Err : goal.returns-in-Err
 returns-in-Err g c = λ image accepts marks.
     let job = c.args.asked.job.now in
-    report_left (IsWhereText job) (IsBareRefusal job) MayEnd _ _ c.no_block.result c.no_block.ensures.plain c.no_block.ensures.other tt
+    report_left (IsWhereText job) (IsBareRefusal job) MayEnd _ _ c.no_block.result c.no_block.ensures.plain c.no_block.ensures.other c.no_block.ensures.all tt
     (owners_left image _ _ accepts job c.asking.result c.asking.ensures.words c.asking.ensures.json (subst (AreMarksOf job.bad (block_count image) []) (sym c.asking.ensures.unread) marks) _ _ c.in-Err.fault c.in-Err.ensures.front)

@@ -24,10 +24,11 @@ invariant_of-result c =
     let trusted = ap (λ (s : Saved). s.trusted) c.tree.view_is ∙ c.requires.trusted in
     let hidden = subst (λ (xs : List ℕ). AreHidden xs known.left_out) (sym image) c.in_ok-known.ensures.hidden in
     let reached = subst (All (λ (entry : Salvaged). entry.found ≡ false)) (sym (entries ∙ ap (λ (s : Saved). s.entries) c.tree.view_is)) c.requires.tree.reached in
+    let many = c.in_ok-known.ensures.before ∙ c.len.ensures ∙ tree.entries.ok.0 ∙ sym (ap length entries) in
     let readable = subst (λ (xs : List ℕ). All (IsReadable xs) old.entries.items) (sym image) (subst (All (IsReadable tree.image)) (sym entries) c.tree.invariant.readable) in
     record {
       trust = λ same. subst IsTrustedBitmap (sym image) (c.tree.invariant.trust trusted);
-      readable = found_readable known old new more.gathered more.all more.found hidden reached readable;
+      readable = found_readable known old new more.gathered more.all more.found hidden reached many readable;
       inside = pieces_inside known.holes.items known.image new.giving more.gathered.so_far.giving;
     }
 
@@ -39,6 +40,7 @@ returns c =
     let entries = c.in_ok-gathered.ensures.entries ∙ ap (λ (s : Saved). s.entries) c.tree.view_is in
     let hidden = subst (λ (xs : List ℕ). AreHidden xs known.left_out) (sym c.in_ok-known.ensures.image) c.in_ok-known.ensures.hidden in
     let reached = subst (All (λ (entry : Salvaged). entry.found ≡ false)) (sym entries) c.requires.tree.reached in
-    adds_lost known old c.add_unreached.new.gathered more.gathered more.all more.found hidden reached c.args.tree _ entries (c.in_ok-known.ensures.image ∙ ap (λ (s : Saved). s.image) c.tree.view_is)
+    let many = c.in_ok-known.ensures.before ∙ c.len.ensures ∙ c.tree.inside.entries.ok.0 ∙ sym (ap length c.in_ok-gathered.ensures.entries) in
+    adds_lost known old c.add_unreached.new.gathered more.gathered more.all more.found hidden reached many c.args.tree _ entries (c.in_ok-known.ensures.image ∙ ap (λ (s : Saved). s.image) c.tree.view_is)
     (ap (λ holes. holes.items) c.in_ok-known.ensures.holes ∙ ap (λ (s : Saved). s.holes) c.tree.view_is) (ap (λ (s : Saved). s.accepted) c.tree.view_is) (sym c.requires.trusted)
     (ap (λ (s : Saved). s.deleted) c.tree.view_is) refl refl refl refl

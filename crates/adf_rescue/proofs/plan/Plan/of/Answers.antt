@@ -26,4 +26,4 @@ pub returns-clause-files : goal.returns-clause-files
 returns-clause-files c =
     let entries = c.args.salvage.now.entries in
     let all : length entries ≤ c.loop-place.place = subst (λ (es : List Salvaged). length es ≤ c.loop-place.place) c.entries-entries.ensures c.loop-place-test.false in
-    ap (flat_map file_in) c.forget_names.ensures.sources ∙ c.loop-place.invariant.files ∙ ap (files_from 0) (take_all c.loop-place.place entries all)
+    c.loop-place.invariant.files ∙ ap (files_from 0) (take_all c.loop-place.place entries all)
