@@ -236,7 +236,7 @@ def told_options(dist: Path) -> Optional[Options]:
         return (ran.output + ran.texts).decode()
 
     def options_of(command: str) -> List[str]:
-        return sorted(set(re.findall(r"(?m)^ +(?:-[a-z], )?(--[a-z]+)", help_of(command))) - {"--help"})
+        return sorted(set(re.findall(r"(?m)^ {2,6}(?:-[a-z], )?(--[a-z]+)", help_of(command))) - {"--help"})
 
     names = re.findall(r"(?m)^  ([a-z]+) ", help_of().partition("Options:")[0])
     return sorted((it, options_of(it)) for it in names) or None
