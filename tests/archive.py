@@ -290,13 +290,15 @@ def parallel(room: Room) -> None:
         for jobs in ["2", "4", "61", "1000"]:
             room.report.same(f"check {' '.join(words)} with {jobs} jobs", room.run("check", "--jobs", jobs, *words, "many", "good.adf"), one)
         room.report.same(f"check {' '.join(words)} with as many jobs as processors", room.run("check", *words, "many", "good.adf"), one)
-    ran, told = room.on_terminal(2, "check", "--jobs", "2", "many")
+    lines = room.run("check", "--jobs", "1", "many").output
+    # (with JSON each thread has one image at a time, and else up to 32 in a row)
+    ran, told = room.on_terminal(2, "check", "--jobs", "2", "--json", "many")
     room.report.expect("how many of how many on a terminal", b"2 of 61 images" in told, f"told {told[:200]!r}")
     shown = re.findall(rb"\[(#*)(-*)\] (\d+) of 61 images(?:, [\d,]+/s, \d+ (?:s|min|h) left)?, (\d+) refused\r\x1b\[K", told)
     room.report.same("a bar for each step", [(len(full), len(full + rest), int(done)) for full, rest, done, _ in shown], [(done * 10 // 61, 10, done) for done in range(0, 61, 2)])
-    room.report.same("how many were refused so far", [int(it) for *_, it in shown], [refused_before(ran.output, done) for done in range(0, 61, 2)])
+    room.report.same("how many were refused so far", [int(it) for *_, it in shown], [refused_before(lines, done) for done in range(0, 61, 2)])
     room.report.expect("rate and time left", b"/s, " in told, f"told {told[:200]!r}")
-    room.report.same("what is printed beside a terminal", ran.output, room.run("check", "--jobs", "1", "many").output)
+    room.report.same("what is printed beside a terminal", ran.output, room.run("check", "--jobs", "1", "--json", "many").output)
 
 
 def refused_before(lines: bytes, images: int) -> int:

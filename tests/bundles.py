@@ -4,8 +4,8 @@
     tests/bundles.py [PROGRAM]
 
 200 images that ADFlib wrote, and some that `drawn_volume.py` draws, become bundles and then volumes again. A reader in Python compares
-the trees. Then each refusal: of what is in the way, of images, of descriptions, and of files that are not as described. ADFlib is
-built from Debian's source of `unadf`; without it as many more images are drawn.
+the trees. Then each refusal: of what is in the way, of images, of descriptions, and of files that are not as described. Without
+ADFlib (`tests/adflib.py`) as many more images are drawn.
 """
 from __future__ import annotations
 
@@ -13,20 +13,19 @@ import json
 import os
 import resource
 import shutil
-import subprocess
 import sys
 from pathlib import Path
 from typing import Any, Callable, Dict, List, Optional, Set, Tuple
 
 sys.dont_write_bytecode = True
 
-from drawn_volume import Told, draw, read
+from adflib import LACKING, SHAPES, built_adflib
+from drawn_volume import Told, difference, draw, read
 from harness import (
     BLOCK,
     MOMENT,
     OFS_ROOM,
     POINTERS,
-    TOP,
     Report,
     Room,
     boot_sum,
@@ -40,8 +39,6 @@ from harness import (
 )
 
 DRAWN, BY_ADFLIB = 40, 200
-# The cylinders, heads and sectors of ADFlib's images: floppies of both densities, and small hard files.
-SHAPES = [(80, 2, 11), (80, 2, 22), (80, 2, 11), (50, 1, 16), (80, 2, 11)]
 # Enough memory for any bundle.
 GIBIBYTE = 1 << 30
 Json = Dict[str, Any]
@@ -50,19 +47,6 @@ Json = Dict[str, Any]
 def kind_words(told: Told) -> List[str]:
     """The arguments of `blank` for an empty volume of this kind and size."""
     return [*(["--ffs"] if told.kind[3] else []), "--blocks", str(told.blocks)]
-
-
-def difference(old: Told, new: Told) -> Optional[str]:
-    """What differs between two volumes, if anything does."""
-    for field in Told._fields:
-        if field != "entries" and getattr(old, field) != getattr(new, field):
-            return f"{field} is {getattr(new, field)!r}, and was {getattr(old, field)!r}"
-    if len(old.entries) != len(new.entries):
-        return f"there are {len(new.entries)} entries, and were {len(old.entries)}"
-    for one, other in zip(old.entries, new.entries):
-        if one != other:
-            return f"an entry is {str(other)[:200]}, and was {str(one)[:200]}"
-    return None
 
 
 def boot_told(boot: bytes) -> bytes:
@@ -124,38 +108,18 @@ def drawn_volumes(room: Room) -> None:
         room.report.ends(f"drawn volume {seed}", lambda: there_and_back(room, draw(seed)))
 
 
-def adflib_peer(folder: Path) -> Optional[Path]:
-    """The program that writes images by ADFlib, built from Debian's source."""
-    peer = folder / "peer"
-    script = f"""
-        set -e
-        . /etc/os-release
-        mkdir -p apt/lists/partial
-        echo "deb-src http://deb.debian.org/debian $VERSION_CODENAME main" > apt/sources
-        set -- -o Dir::Etc::sourcelist=$PWD/apt/sources -o Dir::Etc::sourceparts=/dev/null -o Dir::State::lists=$PWD/apt/lists
-        apt-get "$@" update
-        apt-get "$@" source unadf
-        make -C unadf-*/Lib
-        cc -O2 -std=c11 -w -I "$(echo unadf-*/Lib)" -I "$(echo unadf-*/Lib/Generic)" -o peer {TOP}/tests/c/adflib_volumes.c "$(echo unadf-*/Lib/libadf.a)"
-    """
-    built = subprocess.run(["bash", "-c", script], cwd=folder, stdin=subprocess.DEVNULL, capture_output=True)
-    return peer if built.returncode == 0 and peer.exists() else None
-
-
 def adflib_volumes(room: Room) -> None:
-    os.mkdir("adflib")
-    peer = adflib_peer(Path("adflib").absolute())
-    if peer is None:
-        room.report.lacks("volumes by ADFlib", "source of unadf, or no compiler; more volumes are drawn")
+    adflib = built_adflib(SHAPES)
+    if adflib is None:
+        room.report.lacks("volumes by ADFlib", f"{LACKING}; more volumes are drawn")
         for seed in range(DRAWN, DRAWN + BY_ADFLIB):
             room.report.ends(f"drawn volume {seed}", lambda: there_and_back(room, draw(seed)))
         return
     found: Set[str] = set()
     for seed in range(BY_ADFLIB):
-        words = [str(peer), str(seed), "peer.adf", *map(str, SHAPES[seed % len(SHAPES)]), "ofs" if seed % 2 else "ffs"]
-        subprocess.run(words, check=True, capture_output=True)
-        found |= traits(read(room.content("peer.adf")))
-        room.report.ends(f"volume {seed} by ADFlib", lambda: there_and_back(room, room.content("peer.adf")))
+        data = adflib.volume(seed)
+        found |= traits(read(data))
+        room.report.ends(f"volume {seed} by ADFlib", lambda: there_and_back(room, data))
     wanted = {f"{kind} of {blocks} blocks" for kind in ("OFS", "FFS") for blocks in (800, 1760, 3520)} | TRAITS
     room.report.same("ADFlib's volumes have all that is wanted", wanted - found, set())
 

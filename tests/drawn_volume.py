@@ -93,6 +93,19 @@ def read(data: bytes) -> Told:
     return Reader(data).told()
 
 
+def difference(old: Told, new: Told) -> Optional[str]:
+    """What differs between two volumes, if anything does."""
+    for field in Told._fields:
+        if field != "entries" and getattr(old, field) != getattr(new, field):
+            return f"{field} is {getattr(new, field)!r}, and was {getattr(old, field)!r}"
+    if len(old.entries) != len(new.entries):
+        return f"there are {len(new.entries)} entries, and were {len(old.entries)}"
+    for one, other in zip(old.entries, new.entries):
+        if one != other:
+            return f"an entry is {str(other)[:200]}, and was {str(one)[:200]}"
+    return None
+
+
 # ---- drawn volumes
 
 

@@ -14,7 +14,6 @@ import os
 import re
 import shlex
 import shutil
-import subprocess
 import sys
 from collections import Counter
 from concurrent.futures import ThreadPoolExecutor
@@ -24,7 +23,7 @@ from typing import Dict, Iterable, Iterator, List, Optional, Tuple
 
 sys.dont_write_bytecode = True
 
-from bundles import SHAPES, adflib_peer
+from adflib import HARD_FILE, LACKING, SHAPES, built_adflib
 from completions import FISH, ZSH, at_terminal
 from drawn_volume import Entry, draw, read
 from harness import TOP, Ran, Report, fault_of, processors, run
@@ -287,26 +286,18 @@ def drawn(tried: Tool) -> None:
 
 def by_adflib(tried: Tool) -> None:
     """Volumes that ADFlib writes, also beside its own reader."""
-    os.mkdir("adflib")
-    peer = adflib_peer(Path("adflib").absolute())
-    if peer is None:
-        tried.report.lacks("volumes by ADFlib", "source of unadf, or no compiler")
+    adflib = built_adflib(SHAPES)
+    if adflib is None:
+        tried.report.lacks("volumes by ADFlib", LACKING)
         return
     for seed in range(BY_ADFLIB):
-        data = written(peer, seed)
+        data = adflib.volume(seed)
         tried.report.ends(f"volume {seed} by ADFlib", lambda: out_and_in(tried, data))
         # (unadf knows floppies of both densities)
-        if shutil.which("unadf") and SHAPES[seed % len(SHAPES)][0] == 80:
+        if shutil.which("unadf") and SHAPES[seed % len(SHAPES)] != HARD_FILE:
             tried.report.ends(f"volume {seed} by ADFlib beside unadf", lambda: beside_unadf(tried, data))
     if not shutil.which("unadf"):
         tried.report.lacks("sums of files", "unadf (Debian: unadf)")
-
-
-def written(peer: Path, seed: int) -> bytes:
-    """Returns a volume that ADFlib writes."""
-    words = [str(peer), str(seed), "peer.adf", *map(str, SHAPES[seed % len(SHAPES)]), "ofs" if seed % 2 else "ffs"]
-    subprocess.run(words, check=True, capture_output=True)
-    return Path("peer.adf").read_bytes()
 
 
 def main(words: List[str]) -> int:

@@ -4,7 +4,9 @@
     tests/rescued.py [PROGRAM]
 
 The damages are made in Python, and a reader in Python reads the new image. The bytes and notes that it has to have are those that
-`extract --damaged --meta` writes to files of the host. The environment variable ROUNDS is the number of drawn images.
+`extract --damaged --meta` writes to files of the host. Floppies that ADFlib writes are tried as they are, where the new image has to
+have everything of the old one, also for `unadf`, and then damaged. The environment variable ROUNDS is the number of drawn images, and
+of floppies by ADFlib.
 """
 from __future__ import annotations
 
@@ -14,15 +16,18 @@ import random
 import re
 import shutil
 import sys
+from collections import Counter
 from pathlib import Path
 from typing import Callable, Dict, List, Optional, Sequence, Set
 
 sys.dont_write_bytecode = True
 
-from drawn_volume import Drawer, Entry, Reader, Told, drawn, read
+from adflib import FLOPPIES, LACKING, built_adflib
+from drawn_volume import Drawer, Entry, Reader, Told, difference, drawn, read
 from harness import BLOCK, DIRECTORY, FILE, MOMENT, Failed, Image, Ran, Room, host_name, slot_of, try_all
+from tally import by_unadf
 
-ROUNDS = int(os.environ.get("ROUNDS", "60"))
+DRAWN, BY_ADFLIB = (int(os.environ.get("ROUNDS", it)) for it in ("60", "6"))
 HEADER_DOUBT = b"doubtful: its header has a wrong checksum or too long a comment"
 BLOCK_DOUBT = b"doubtful: a block has a wrong checksum or field, or is in another file too"
 # The bits and the date of a note, before its comment.
@@ -258,6 +263,43 @@ def same_names(room: Room) -> None:
     room.report.same("the other one is there", by_path(read(room.content("new.adf")))[b"letter"], by_path(read(room.content("old.adf")))[b"letter"])
 
 
+def same_directories(room: Room) -> None:
+    """Of two directories with the same name on an Amiga the first one has the files of both."""
+    room.write("work.adf", room.content("old.adf"))
+    room.write("given", b"another")
+    room.done("mkdir", "work.adf", "Docx")
+    room.done("add", "--as", "more", "--to", "Docx", "work.adf", "given")
+
+    def rename(image: Image) -> None:
+        key = key_of(image, b"Docx")
+        image.put(image.root, 6 + slot_of(b"Docx"), image.long(key, 124))
+        image.put(key_of(image, b"Docs"), 124, key)
+        image.data[BLOCK * key + 433 : BLOCK * key + 437] = b"DOCS"
+        image.put(key, 124, 0)
+        for it in (image.root, key, key_of(image, b"Docs")):
+            image.settle(it)
+
+    changed(room, rename, "work.adf")
+    found = LEFT_OUT.findall(saved(room).texts.decode())
+    room.report.same("one is left out", found, [("DOCS", "another directory has its name there, and has its entries")])
+    paths = [b"Docs", b"Docs/list", b"Docs/more", b"Docs/old", b"Docs/old/note", b"letter"]
+    room.report.same("the files of both are there", sorted(by_path(read(room.content("new.adf")))), paths)
+
+
+def no_directory(room: Room) -> None:
+    """A file whose directory has no block."""
+    room.done("blank", "--ffs", "--blocks", "40", *MOMENT, "Small", "small.adf")
+    room.write("given", b"w" * 33 * 512)
+    room.done("add", *MOMENT, "--as", "whole", "small.adf", "given")
+    room.write("given", b"")
+    room.done("mkdir", *MOMENT, "small.adf", "Docs")
+    room.done("add", *MOMENT, "--as", "last", "--to", "Docs", "small.adf", "given")
+    changed(room, break_sum(b"Docs/last"), "small.adf")
+    found = LEFT_OUT.findall(saved(room).texts.decode())
+    room.report.same("it is left out", found, [("Docs/last", "its directory is not there")])
+    room.report.same("what is there", sorted(by_path(read(room.content("new.adf")))), [b"Damaged", b"Docs", b"whole"])
+
+
 def targets(room: Room) -> None:
     changed(room, break_sum(b"letter"))
     saved(room)
@@ -313,8 +355,9 @@ def beside_notes(path: str) -> str:
     return "/".join(f"{it[:-5]}%2E{it[-4:]}" if it.lower().endswith(".uaem") else it for it in path.split("/"))
 
 
-def fault_of_drawn(room: Room) -> Optional[str]:
-    """What is wrong with the new image of bad.adf."""
+def fault_of_damaged(room: Room, data: bytes) -> Optional[str]:
+    """What is wrong with the new image of a damaged one."""
+    room.write("bad.adf", data)
     for it in ("there", "again"):
         shutil.rmtree(it, ignore_errors=True)
     Path("new.adf").unlink(missing_ok=True)
@@ -351,15 +394,58 @@ def fault_of_drawn(room: Room) -> Optional[str]:
 
 
 def drawn_images(room: Room) -> None:
-    for number in range(ROUNDS):
-        chance = random.Random(number)
-        room.write("bad.adf", damage(bytes(drawn(number, Drawer).data), chance))
-        room.report.hold(f"drawn image {number}", fault_of_drawn(room))
+    for number in range(DRAWN):
+        data = damage(bytes(drawn(number, Drawer).data), random.Random(number))
+        room.report.ends(f"drawn image {number}", lambda: fault_of_damaged(room, data))
+
+
+# ---- floppies by ADFlib
+
+
+def in_order(told: Told) -> Told:
+    """What a volume tells, with its entries in the order of their paths."""
+    return told._replace(entries=sorted(told.entries, key=lambda it: it.path))
+
+
+def fault_of_sound(room: Room, data: bytes) -> Optional[str]:
+    """What is wrong with the new image of one that is not damaged. It has all of the old one; what else was found is below `lost+found` or
+    `Damaged`. (ADFlib leaves the header of a deleted file marked as used.)"""
+    fault = fault_of_damaged(room, data)
+    if fault or room.content("bad.adf") != data:
+        return fault or "the image changed"
+    new = read(room.content("new.adf"))
+    tree = new._replace(entries=[it for it in new.entries if it.path.partition(b"/")[0] not in (b"lost+found", b"Damaged")])
+    return difference(in_order(read(data)), in_order(tree)) or fault_by_unadf(new)
+
+
+def fault_by_unadf(told: Told) -> Optional[str]:
+    """What is wrong with the files that `unadf` reads of new.adf, if it is installed. Of one that is protected from reading it writes none of
+    the bytes."""
+    if not shutil.which("unadf"):
+        return None
+    found = Counter(by_unadf("new.adf"))
+    wanted = Counter(b"" if it.bits & 8 else it.data for it in told.entries if it.data is not None)
+    both = sum((found & wanted).values())
+    return None if found == wanted else f"unadf reads {sum(found.values())} files, of which {both} are among the {sum(wanted.values())} of the new image"
+
+
+def floppies_by_adflib(room: Room) -> None:
+    adflib = built_adflib(FLOPPIES)
+    if adflib is None:
+        room.report.lacks("floppies by ADFlib", LACKING)
+        return
+    if not shutil.which("unadf"):
+        room.report.lacks("new images by unadf", "unadf (Debian: unadf)")
+    for seed in range(BY_ADFLIB):
+        data = adflib.volume(seed)
+        room.report.ends(f"floppy {seed} by ADFlib", lambda: fault_of_sound(room, data))
+        bad = damage(data, random.Random(f"ADFlib {seed}"))
+        room.report.ends(f"floppy {seed} by ADFlib, damaged", lambda: fault_of_damaged(room, bad))
 
 
 def main(words: List[str]) -> int:
-    rules = (sound, label_and_dates, not_whole, long_comments, doubtful_directory, found_entries, own_names, full, same_names, targets)
-    return try_all(words, Room, *rules, drawn_images)
+    rules = (sound, label_and_dates, not_whole, long_comments, doubtful_directory, found_entries, own_names, full, no_directory, same_names, same_directories, targets)
+    return try_all(words, Room, *rules, drawn_images, floppies_by_adflib)
 
 
 if __name__ == "__main__":

@@ -4,7 +4,8 @@
 #   examples/amiga/build.sh PREFIX OUT
 #
 # PREFIX has the library for C, as bindings/c/build.sh installs it. OUT gets `task` and `commands` for the Amiga, and the shared object
-# `jipamiga-linux-x86-64.so` for FS-UAE. It needs a C compiler (CC, or cc), python3, and Debian's gcc-m68k-linux-gnu.
+# `jipamiga-linux-x86-64.so` for FS-UAE; if PREFIX is `-`, only the programs for the Amiga. It needs a C compiler (CC, or cc), python3,
+# and Debian's gcc-m68k-linux-gnu.
 set -euo pipefail
 [ $# = 2 ] || { echo 'usage: build.sh PREFIX OUT' >&2; exit 2; }
 prefix=$1 out=$2
@@ -13,7 +14,7 @@ mkdir -p "$out"
 room=$(mktemp -d)
 trap 'rm -rf "$room"' EXIT
 
-"${CC:-cc}" -std=c11 -O2 -Wall -Wextra -Wpedantic -shared -fPIC -I "$prefix/include" -o "$out/jipamiga-linux-$(uname -m | tr _ -).so" \
+[ "$prefix" = - ] || "${CC:-cc}" -std=c11 -O2 -Wall -Wextra -Wpedantic -shared -fPIC -I "$prefix/include" -o "$out/jipamiga-linux-$(uname -m | tr _ -).so" \
     "$here/host.c" "$prefix/lib/libjiponuwha.a"
 
 # One hunk of code without relocations: its own texts and functions are found from the program counter.

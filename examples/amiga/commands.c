@@ -2,9 +2,8 @@
  *
  *     commands COMMAND FROM TO ALL NUMBER n
  *
- * dir, list, type, sum, copy, delete, rename, makedir, protect, filenote, setdate, relabel, info, assign: as the commands in C: of
- * an Amiga, with less. The others are for tests: calls, packet, odd, hold, inhibit, insert, lock, mark, wait,
- * device. */
+ * dir, list, type, sum, copy, delete, rename, makedir, protect, filenote, setdate, relabel, format, info, assign: as the commands in
+ * C: of an Amiga, with less. The others are for tests: calls, packet, odd, hold, inhibit, insert, lock, mark, wait, device. */
 #include "amiga.h"
 
 /* Functions of dos.library. */
@@ -53,6 +52,7 @@ enum dos_function {
     UNLOCK_DOS_LIST = -660,
     FIND_DOS_ENTRY = -684,
     IS_FILE_SYSTEM = -708,
+    FORMAT = -714,
     RELABEL = -720,
     INHIBIT = -726,
     ADD_BUFFERS = -732,
@@ -352,6 +352,17 @@ static s32 set_date(const char *path, u32 days) {
     return ended(dos(SET_FILE_DATE, (u32)path, (u32)date), path);
 }
 
+/* Makes an empty volume with this label and of this kind of disk. */
+static s32 format(const char *device, const char *label, u32 kind) {
+    s32 result, number;
+    if (!dos(INHIBIT, (u32)device, (u32)YES)) return fail("inhibit");
+    result = dos(FORMAT, (u32)device, (u32)label, kind);
+    number = error();
+    dos(INHIBIT, (u32)device, NO);
+    dos(SET_IO_ERR, (u32)number);
+    return ended(result, device);
+}
+
 /* ---- Packets ---- */
 
 /* Sends a packet to the handler of a device or volume. */
@@ -558,6 +569,7 @@ static s32 run_on_files(const struct arguments *a) {
     if (is_same(c, "filenote")) return ended(dos(SET_COMMENT, (u32)a->from, (u32)a->to), a->from);
     if (is_same(c, "setdate")) return set_date(a->from, (u32)*a->number);
     if (is_same(c, "relabel")) return ended(dos(RELABEL, (u32)a->from, (u32)a->to), a->from);
+    if (is_same(c, "format")) return format(a->from, a->to, (u32)*a->number);
     if (is_same(c, "info")) return info(a->from);
     if (is_same(c, "assign")) return assign(a->from, a->to);
     return UNKNOWN;

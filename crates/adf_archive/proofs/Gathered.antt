@@ -1,17 +1,6 @@
 -- The results of a function for some positions and for those after them.
 use Rattle.std.proofs.Common.{◌≡◌, ℕ, zero, suc, ◌∷◌, ap, length, ◌+◌, ◌-◌, ◌<◌, ◌≤◌, List, [], ◌++◌, get_or, ap₂, sym, ◌∙◌, subst, length-append, refl, inl, inr, ◌⊎◌, arith}
-use Rattle.std.specs.List.{range_with_len}
-use Rattle.std.specs.Fork.{GivesJobs}
-use Rattle.std.proofs.lemmas.List.FromFn.{length-range_with_len, get_or-range_with_len}
 use Rattle.adf_archive.proofs.Common.{get_or_append_left, get_or-append_right, cases_lt, Shared, FnReturns, GivesFrom}
-
-run_more : (start n : ℕ) → range_with_len start (suc n) ≡ range_with_len start n ++ (start + n) ∷ []
-run_more start zero = ap (λ (k : ℕ). k ∷ []) (omega arith)
-run_more start (suc n) = ap (λ (l : List ℕ). start ∷ l) (run_more (start + 1) n ∙ ap (λ (k : ℕ). range_with_len (start + 1) n ++ k ∷ []) (omega arith))
-
--- a list of positions, and the one after them
-pub one_place_more : (start n : ℕ) → range_with_len start (n + 1) ≡ range_with_len start n ++ (start + n) ∷ []
-one_place_more start n = let next : n + 1 ≡ suc n = omega arith in ap (range_with_len start) next ∙ run_more start n
 
 module _ {F R : Type 0} (g : Shared F (ℕ × Unit {0}) R) (f : F) where
   pub gives_none : (start : ℕ) → GivesFrom g f start 0 []
@@ -26,13 +15,18 @@ module _ {F R : Type 0} (g : Shared F (ℕ × Unit {0}) R) (f : F) where
           subst (λ (r : R). FnReturns g f (start + i, tt) r) (sym (get_or-append_right a b n i d first.0 behind))
           (subst (λ (k : ℕ). FnReturns g f (k, tt) (get_or b (i - n) d)) (omega (arith, behind)) (rest.1 (i - n) d (omega (arith, l, behind))))
 
-  -- the results for these positions, one after the other
-  pub gives_places : (start n : ℕ) (places : List ℕ) (results : List R) → places ≡ range_with_len start n → length results ≡ n → GivesJobs g f places results → GivesFrom g f start n results
-  gives_places start n places results are same each =
-      let count : length places ≡ n = ap length are ∙ length-range_with_len start n in (
-        same,
-        λ i d l.
-            let given = (each i d (omega (arith, l, count))).1 in
-            subst (λ (k : ℕ). FnReturns g f (k, tt) (get_or results i d))
-            (sym (given.job_is 0) ∙ ap (λ (l : List ℕ). get_or l i 0) are ∙ get_or-range_with_len start n i 0 l) given.call,
-      )
+  gives_one : (start : ℕ) (r : R) → FnReturns g f (start, tt) r → GivesFrom g f start 1 (r ∷ [])
+  gives_one start r is = (refl, one)
+    where
+      one : (i : ℕ) (d : R) → i < 1 → FnReturns g f (start + i, tt) (get_or (r ∷ []) i d)
+      one zero d l = subst (λ (k : ℕ). FnReturns g f (k, tt) r) (omega arith) is
+      one (suc i) d l = absurd (omega (arith, l))
+
+  -- one more result
+  pub gives_next : (start n : ℕ) (a : List R) (r : R) → GivesFrom g f start n a → FnReturns g f (start + n, tt) r → GivesFrom g f start (n + 1) (a ++ r ∷ [])
+  gives_next start n a r first is = gives_more start n 1 a (r ∷ []) first (gives_one (start + n) r is)
+
+  -- the results of two parts, as those of the whole
+  pub gives_both : (start low high count : ℕ) (a b all : List R) → low + high ≡ count → all ≡ a ++ b → GivesFrom g f start low a → GivesFrom g f (start + low) high b → GivesFrom g f start count all
+  gives_both start low high count a b all sum is first rest =
+      subst (λ (n : ℕ). GivesFrom g f start n all) sum (subst (GivesFrom g f start (low + high)) (sym is) (gives_more start low high a b first rest))

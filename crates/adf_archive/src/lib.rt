@@ -16,6 +16,7 @@ mod names;
 mod next_step;
 mod objects;
 mod owned;
+mod parallel;
 mod path;
 mod person;
 mod progress;

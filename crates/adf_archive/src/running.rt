@@ -1,6 +1,5 @@
 //! The check of an archive.
-ghost use Rattle.std.specs.Prelude.{◌≡◌, ◌<◌, ◌≤◌, ◌+◌, ◌^◌, ℕ, true, false, IfOk, IfErr, IsFalse, IsTrue, is_some, length, map, option_map};
-ghost use Rattle.std.specs.List.{range_with_len};
+ghost use Rattle.std.specs.Prelude.{◌≡◌, ◌<◌, ◌≤◌, ℕ, true, false, IfOk, IfErr, IsFalse, IsTrue, is_some, length, map, option_map};
 ghost use Rattle.std.specs.String.{string_bytes};
 ghost use Rattle.adf_archive.specs.Archive.{IsDetailOf, LeavesOff, TellsAll, TellsArchive};
 ghost use Rattle.adf_archive.specs.Report.{IsReportOfSome};
@@ -10,6 +9,7 @@ use crate::checking::{Detail, report_file};
 use crate::fault::ArchiveFault;
 use crate::finding::{FoundImages, image_files};
 use crate::held::tell_each_held;
+use crate::parallel::reports_by;
 use crate::person::{OutputSettings, tell_person, tell_remarks};
 use crate::progress::Progress;
 use crate::reading::ReadImages;
@@ -19,7 +19,7 @@ use crate::telling::{Form, Tally, tell_reports};
 use adf_cli::CheckJob;
 use adf_host::PromptFiles;
 use adf_text::print_line;
-use std::alloc::{AllocError, Global};
+use std::alloc::Global;
 use std::fs::File;
 use std::io::Write;
 use std::rt::{Clock, Files};
@@ -139,9 +139,23 @@ fn jobs_for<R: Threads>(rt: &R, given: Option<u32>) -> usize {
     }
 }
 
-/// Reports on images in the order of their paths. `report` makes the report for each position of the list, and `jobs`
-/// of them are made in parallel, each on its own thread if one can be started. The threads share only `report`. The
-/// output does not depend on `jobs`.
+/// How many images a thread looks at in a row.
+const ROW: usize = 32;
+
+/// How many images are reported together, if so many are checked in parallel. With JSON each report has all entries of its volume,
+/// so there are no more of them than threads.
+fn batch_of(jobs: usize, form: Form) -> usize
+    ensures { 0 < result }
+{
+    if form.json {
+        return jobs.max(1);
+    }
+    jobs.max(1).saturating_mul(ROW)
+}
+
+/// Reports on images in the order of their paths. `report` makes the report for each position of the list. At most `jobs`
+/// threads make them in parallel, each for up to 32 images in a row, or for one if the reports are JSON. The threads share
+/// only `report`. The output does not depend on `jobs`.
 pub fn check_each<R, C, W, F>(
     rt: &R,
     alloc: Global,
@@ -163,15 +177,15 @@ where
     ensures broken { IfErr result IsBroken }
 {
     let form = settings.form;
+    let batch = batch_of(jobs, form);
     let progress = Progress::begin(rt, paths.len(), settings.terminal);
     let mut tally = Tally::new();
     let mut reasons = Reasons::new();
     let mut done = 0;
     while done < paths.len() {
-        let count = jobs.max(1).min(paths.len() - done);
+        let count = batch.min(paths.len() - done);
         progress.show(rt, done, tally.refused, faults);
-        let places = places_from(alloc, done, count)?;
-        let reports = thread::map_vec(rt, places, report)?;
+        let reports = reports_by(rt, alloc, done, count, jobs, report)?;
         progress.clear(faults);
         tell_reports(alloc, paths, done, &reports, form, writer)?;
         tell_person(
@@ -193,16 +207,4 @@ where
         }
     }
     Ok(tally)
-}
-
-/// The positions of `count` images from `start` on.
-fn places_from(alloc: Global, start: usize, count: usize) -> Result<Vec<usize>, AllocError>
-    requires { start + count < 2 ^ 64 }
-    ensures { IfOk result (λ places. places.items ≡ range_with_len start count) }
-{
-    let mut places = Vec::new(alloc);
-    for i in 0..count {
-        places.push(start + i)?;
-    }
-    Ok(places)
 }

@@ -1,7 +1,5 @@
 use Rattle.std.proofs.Common.{◌≡◌, ◌+◌, ◌<◌, length, get_or, ℕ, List, [], map, ap, sym, subst, ◌∙◌, append-nil, arith}
 use Rattle.adf_archive.proofs.Common.{length-map, Appends, string_bytes, WritesFront, ImageReport, told_from, tallied}
-use Rattle.std.proofs.lemmas.List.FromFn.{length-range_with_len, get_or-range_with_len}
-use Rattle.adf_archive.proofs.Gathered.{gives_places}
 use Rattle.adf_archive.proofs.Chunks.{at_err, so_far_front, so_far_more, so_far_none}
 use Rattle.adf_archive.proofs.running.check_each.Goals as goal
 
@@ -17,8 +15,7 @@ loop-done-preserved g c =
     c.deref.ensures.value c.in_ok-tell_reports.ensures.ok in (
       omega (arith, c.min-count.ensures, c.loop-done-test.true),
       so_far_more g.C.Fn c.args.report.now c.args.settings.form paths (g.W.Write.contents c.args.writer.now) (g.W.Write.contents c.loop-done.writer) (g.W.Write.contents c.tell_reports.new.writer)
-          c.loop-done.done c.min-count.result c.loop-done.tally c.loop-done.invariant.1 c.in_ok-reports.reports.items (gives_places g.C.Fn c.args.report.now c.loop-done.done c.min-count.result c.in_ok-places.places.items c.in_ok-reports.reports.items c.in_ok-places.ensures
-          (omega (arith, c.in_ok-reports.reports.ok.0, c.in_ok-places.places.ok.0, c.in_ok-reports.ensures.len, ap length c.in_ok-places.ensures, length-range_with_len c.loop-done.done c.min-count.result)) c.in_ok-reports.ensures.each)
+          c.loop-done.done c.min-count.result c.loop-done.tally c.loop-done.invariant.1 c.in_ok-reports.reports.items c.in_ok-reports.ensures
           c.add.new.self written (c.add.ensures ∙ ap (tallied c.loop-done.tally) c.deref-in-loop-done-2.ensures.value),
     )
 
@@ -30,40 +27,18 @@ returns-in_err-tell_reports-clause-fault g c =
     c.deref.ensures.value c.in_err-tell_reports.ensures.front in
     at_err c.from_residual-in_err-tell_reports.result
     (so_far_front g.C.Fn c.args.report.now c.args.settings.form paths (g.W.Write.contents c.args.writer.now) (g.W.Write.contents c.loop-done.writer) (g.W.Write.contents c.tell_reports.new.writer)
-    c.loop-done.done c.min-count.result c.loop-done.tally c.loop-done.invariant.1 c.in_ok-reports.reports.items (gives_places g.C.Fn c.args.report.now c.loop-done.done c.min-count.result c.in_ok-places.places.items c.in_ok-reports.reports.items c.in_ok-places.ensures
-    (omega (arith, c.in_ok-reports.reports.ok.0, c.in_ok-places.places.ok.0, c.in_ok-reports.ensures.len, ap length c.in_ok-places.ensures, length-range_with_len c.loop-done.done c.min-count.result)) c.in_ok-reports.ensures.each) front
+    c.loop-done.done c.min-count.result c.loop-done.tally c.loop-done.invariant.1 c.in_ok-reports.reports.items c.in_ok-reports.ensures front
     (omega (arith, c.min-count.ensures, c.loop-done-test.true, length-map c.args.paths.now string_bytes)))
 
 pub returns-in_err-reports-clause-fault : goal.returns-in_err-reports-clause-fault
 returns-in_err-reports-clause-fault g c =
     let so = c.loop-done.invariant.1 in
     let told : List ℕ = told_from c.args.settings.form (map string_bytes c.args.paths.now) 0 so.reports in
-    at_err c.from_residual-in_err-reports.result
-    (c.loop-done.done, so.reports, omega (arith, c.loop-done.invariant.0, length-map c.args.paths.now string_bytes), so.gives, (told, so.written, ([], sym (append-nil told))))
-
-pub returns-in_err-places-clause-fault : goal.returns-in_err-places-clause-fault
-returns-in_err-places-clause-fault g c =
-    let so = c.loop-done.invariant.1 in
-    let told : List ℕ = told_from c.args.settings.form (map string_bytes c.args.paths.now) 0 so.reports in
     at_err c.from_residual.result
     (c.loop-done.done, so.reports, omega (arith, c.loop-done.invariant.0, length-map c.args.paths.now string_bytes), so.gives, (told, so.written, ([], sym (append-nil told))))
 
-pub map_vec-requires-after_bounds : goal.map_vec-requires-after_bounds
-map_vec-requires-after_bounds g c = λ k p i x l is.
-    let n : i < c.min-count.result = omega (arith, l, ap length c.in_ok-places.ensures, length-range_with_len c.loop-done.done c.min-count.result) in
-    let at : x ≡ c.loop-done.done + i = is ∙ ap (λ (places : List ℕ). get_or places i x) c.in_ok-places.ensures ∙ get_or-range_with_len c.loop-done.done c.min-count.result i x n in
-    c.requires x (omega (arith, at, n, c.min-count.ensures, c.loop-done-test.true))
+pub reports_by-requires-clause-accepts : goal.reports_by-requires-clause-accepts
+reports_by-requires-clause-accepts g c = λ k p i from l. c.requires i (omega (arith, l, c.min-count.ensures, c.loop-done-test.true))
 
 pub tell_reports-requires : goal.tell_reports-requires
-tell_reports-requires g c =
-    omega (
-      arith,
-      ap length c.deref.ensures.value,
-      c.in_ok-reports.reports.ok.0,
-      c.in_ok-places.places.ok.0,
-      c.in_ok-reports.ensures.len,
-      ap length c.in_ok-places.ensures,
-      length-range_with_len c.loop-done.done c.min-count.result,
-      c.min-count.ensures,
-      c.loop-done-test.true,
-    )
+tell_reports-requires g c = omega (arith, ap length c.deref.ensures.value, c.in_ok-reports.ensures.0, c.min-count.ensures, c.loop-done-test.true)
