@@ -1,5 +1,5 @@
 #!/usr/bin/env python3
-"""Tests the built program on whole archives: checks of many images, all faults of an image, JSON, endless input, and the
+"""Tests the built program on whole archives: checks of many images, lists of names, all faults of an image, JSON, endless input, and the
 salvage of damaged images.
 
     tests/archive.py [PROGRAM]
@@ -35,6 +35,8 @@ DAMAGED = int(os.environ.get("DAMAGED", "400"))
 FILLED = int(os.environ.get("FILLED", "60"))
 ROOT = 880
 LARGEST = 101_602 * BLOCK
+# The most bytes of a list of names.
+LONGEST_LIST = 33_554_432
 ALL_ONES = 2**32 - 1
 # The arguments of `blank` for each kind.
 KINDS: List[List[str]] = [["--ffs"], []]
@@ -200,6 +202,69 @@ def strange_names(room: Room) -> None:
     ran = room.run("check", "strange")
     texts = "".join(f"{it}\n" for it in [*unread, totals(2, 0, 2)]).encode()
     room.report.same("names that are not UTF-8", ran, Ran(2, lines_with(["strange/a.adf", "strange/z\u00e9.adf"], "ok"), texts))
+
+
+def listed(room: Room) -> None:
+    """The images that a list names, after those of the arguments. Each list is a file, and then standard input."""
+    good, valid, far = b"good.adf\tok\n", b"invalid.adf\tok validated\n", b"elsewhere/far.adf\tok\n"
+
+    def check(name: str, data: bytes, words: Sequence[str], status: int, output: bytes, *texts: str) -> None:
+        """All lines on standard error are these, in which LIST stands for the list."""
+        room.write("names", data)
+        for file, input in (("names", b""), ("-", data)):
+            told = "".join(f"{it}\n" for it in texts).replace("LIST", file).encode()
+            ran = room.run("check", "--from", file, *words, input=input)
+            room.report.same(f"a list as {file}: {name}", ran, Ran(status, output, told))
+
+    check("one name", b"good.adf\n", [], 0, good, totals(1))
+    check("a last line without an end", b"good.adf\ninvalid.adf", [], 0, good + valid, totals(2))
+    check("lines of MS-DOS", b"good.adf\r\n\r\ninvalid.adf\r\n", [], 0, good + valid, totals(2))
+    check("carriage returns", b"good.adf\rinvalid.adf", [], 0, good + valid, totals(2))
+    check("empty lines", b"\n\ngood.adf\n\n\n", [], 0, good, totals(1))
+    check("behind arguments, and in its order", b"invalid.adf\ngood.adf\ninvalid.adf\n", ["good.adf"], 0, good + valid + good + valid, totals(4))
+    check("a directory", b"good.adf\nelsewhere\ngood.adf\n", [], 0, good + far + good, totals(3))
+    none = "adf_serve: 'tree/empty': no image in this directory"
+    check("a directory without an image", b"tree/empty\ngood.adf", [], 0, good, none, totals(1))
+    check("only a directory without an image", b"tree/empty\n", [], 2, b"", none, totals(0))
+    check("a name that is not there", b"none.adf\ngood.adf\n", [], 2, good, NO_FILE, totals(1, 0, 1))
+    foreign = "adf_serve: cannot read 'x%FF%25.adf': name is not UTF-8"
+    check("a name that is not UTF-8", b"x\xff%.adf\ngood.adf\n", [], 2, good, foreign, totals(1, 0, 1))
+    for name in (" 'a' \"b\" #c.adf ", "# d\\n.adf", "--null", "e\nf.adf", "g\r.adf", "-"):
+        shutil.copy("good.adf", name)
+    check("names with marks", b" 'a' \"b\" #c.adf \n# d\\n.adf\n--null\n", [], 0, b" 'a' \"b\" #c.adf \tok\n# d\\n.adf\tok\n--null\tok\n", totals(3))
+    check("the name -", b"-\ngood.adf\n", [], 0, b"./-\tok\n" + good, totals(2))
+    broken = b"e%0Af.adf\tok\ng%0D.adf\tok\n"
+    check("zero bytes", b"e\nf.adf\0\0g\r.adf\0good.adf\0", ["--null"], 0, broken + good, totals(3))
+    check("a last name without a zero byte", b"good.adf\0e\nf.adf\0g\r.adf", ["--null"], 0, good + broken, totals(3))
+    check("lines with --null", b"good.adf\n", ["--null"], 2, b"", "adf_serve: cannot read 'good.adf%0A': no such file", totals(0, 0, 1))
+    for data, words in ((b"", []), (b"\n\r\n\r", []), (b"", ["--null"]), (b"\0\0", ["--null"]), (b"", ["good.adf"])):
+        check(f"no name in {data!r} with {words}", data, words, 2, b"", "adf_serve: 'LIST' names no file")
+    zero = "adf_serve: 'LIST' has a zero byte, which no name has: --null takes a list whose names end with one"
+    check("zero bytes without --null", b"good.adf\0good.adf\n", ["good.adf"], 2, b"", zero)
+    check("the longest list", b"good.adf\n".rjust(LONGEST_LIST, b"\n"), [], 0, good, totals(1))
+    long = "adf_serve: 'LIST' has more than 33,554,432 bytes, the most of a list of names"
+    check("a list that is too long", b"good.adf\n".rjust(LONGEST_LIST + 1, b"\n"), ["good.adf"], 2, b"", long)
+    room.report.check("a list that does not end", room.run("check", "--from", "/dev/zero", "--null"), 2, b"", "'/dev/zero' has more than 33,554,432 bytes")
+    for file, why in (("none.txt", "no such file"), ("tree", "is a directory")):
+        room.report.check(f"a list that is {why}", room.run("check", "--from", file, "good.adf"), 2, b"", f"adf_serve: cannot read '{file}': {why}\n")
+    names = ["good.adf", "bad.adf", "tree", "invalid.adf", "none.adf", "packed"]
+    room.write("names", "".join(f"{it}\n" for it in names).encode())
+    every: List[List[str]] = [[], ["--all"], ["--json"], ["--filler"], ["--jobs", "1"], ["--jobs", "1000"], ["--blocks", "16"]]
+    for words in every:
+        wanted = room.run("check", *words, *names)
+        room.report.same(f"a list with {words} as arguments", room.run("check", *words, "--from", "names"), wanted)
+        room.report.same(f"half a list with {words} as arguments", room.run("check", *words, "--from", "-", *names[:2], input="\n".join(names[2:]).encode()), wanted)
+    many_listed(room)
+
+
+def many_listed(room: Room) -> None:
+    """A hundred thousand names of 200 bytes."""
+    room.done("blank", "--blocks", "16", "Small", "small.adf")
+    path = "./" * 95 + "/small.adf"
+    room.write("names", f"{path}\n".encode() * 100_000)
+    room.report.same("a path of 200 bytes", len(path), 200)
+    ran = room.run("check", "--from", "names")
+    room.report.same("100,000 names", ran, Ran(0, f"{path}\tok\n".encode() * 100_000, f"{totals(100_000)}\n".encode()))
 
 
 def put_many(room: Room) -> None:
@@ -407,7 +472,7 @@ class Suspect(NamedTuple):
 
     def member(self) -> Dict[str, object]:
         path = self.path.decode("latin-1") if len(self.path) <= LONGEST_TOLD else None
-        return {"block": self.block, "header": self.header, "data": self.place, "path": path}
+        return {"block": self.block, "header": self.header, "data": self.place, "path": path, "owner": "data", "number": self.place}
 
 
 def cover(image: Image, block: int, text: bytes, first: int = 0) -> None:
@@ -467,6 +532,7 @@ def filler_blocks(room: Room) -> None:
         objects = [json.loads(it) for it in room.run("check", "--filler", "--json", *paths[:2]).output.splitlines()]
         room.report.same(f"filler {said}: objects", [it["suspects"] for it in objects], [[it.member() for it in sorted(told)], []])
         room.report.same(f"filler {said}: the fields of an object", list(objects[0]), [*FIELDS, "suspects"])
+        listed_too(room, said, clean, blocks, header)
         image.change(ROOT, 78, 0)
         check("a bitmap that is made anew", image, told, first="ok validated\n")
         image.put(header, 5, 0)
@@ -475,6 +541,23 @@ def filler_blocks(room: Room) -> None:
         for words in every:
             without = room.run("check", *words, "filled.adf")
             room.report.same(f"filler {said}: a refused image {' '.join(words)}", room.run("check", "--filler", *words, "filled.adf"), without)
+
+
+def listed_too(room: Room, said: str, clean: Image, blocks: Sequence[int], header: int) -> None:
+    """A list names a block that holds a filler, and others: each has one line, with both options. The bitmap is blocks too."""
+    image = Volume(bytes(clean.data))
+    for place in (1, 2):
+        cover(image, blocks[place], FORMATTED)
+    room.write("listed.adf", bytes(image.data))
+    free = next(it for it in range(2, clean.blocks) if not any(clean.data[BLOCK * it : BLOCK * (it + 1)]))
+    room.write("listed.txt", "".join(f"{it}\n" for it in (blocks[3], blocks[2], header, blocks[2], free, 0, ROOT)).encode())
+    data = [Suspect(blocks[place], header, place, b"Docs/long") for place in (1, 2, 3)]
+    others = {0: "boot block", ROOT: "root", header: "header of Docs/long"}
+    lines = {**{it.block: it.line() for it in data}, **{block: f"suspect block {block}, {words}\n" for block, words in others.items()}}
+    both = "ok\n" + "".join(lines[it] for it in sorted(lines))
+    room.report.check(f"filler {said}: and a list", room.run("check", "--filler", "--bad", "listed.txt", "listed.adf"), 0, both.encode())
+    alone = "ok\n" + "".join(lines[it] for it in sorted(lines) if it != blocks[1])
+    room.report.check(f"filler {said}: a list alone", room.run("check", "--bad", "listed.txt", "listed.adf"), 0, alone.encode())
 
 
 def long_paths_of_fillers(room: Room) -> None:
@@ -1549,7 +1632,7 @@ def deleted_entries(room: Room) -> None:
 
 def main(words: List[str]) -> int:
     random.seed(3)
-    parts = (named_images, directories, strange_names, other_files, next_commands, filler_blocks, long_paths_of_fillers, largest_filled, drawn_fillers, parallel, accepted_objects, refused_objects, shown_values, texts_told, bounded, many_faults, tangled_disks, other_kinds, model, longs_told, salvage, rows, deleted_entries, damages)
+    parts = (named_images, directories, strange_names, listed, other_files, next_commands, filler_blocks, long_paths_of_fillers, largest_filled, drawn_fillers, parallel, accepted_objects, refused_objects, shown_values, texts_told, bounded, many_faults, tangled_disks, other_kinds, model, longs_told, salvage, rows, deleted_entries, damages)
     return try_all(words, Room, *parts)
 
 

@@ -260,6 +260,11 @@ def wrong_words(tried: Commands) -> None:
         wrong("serve --out twice", "serve --out a --out b ffs.adf a", "--out", "Usage"),
         wrong("serve --out without a file", "serve ffs.adf a --out", "--out"),
     )
+    tried.rows(
+        wrong("check --null without a list", "check --null a", "--from <LIST>", "Usage"),
+        wrong("check --from without a list", "check a --from", "--from <LIST>"),
+        wrong("check --from twice", "check --from a --from b", "--from", "Usage"),
+    )
     for command in ("info", "check"):
         tried.rows(
             wrong(f"{command} without a file", [command], "FILE", "Usage"),
@@ -904,7 +909,9 @@ def images_from_input(tried: Commands) -> None:
     tried.rows(row("a file of that name", "check ./-", 0, "ok\n"))
     tried.report.check("not the file of that name", tried.run("check", "-", input=bytes(512)), 3, b"refused TooFewBlocks 0\n", "its bytes are too few")
     tried.report.check("both", tried.run("check", "-", "./-", input=image), 0, b"-\tok\n./-\tok\n", "2 images: 2 ok")
-    for words in ("check - -", "check ./- - piped.adf -"):
+    tried.write("names", b"piped.adf\n")
+    tried.report.check("an image beside a list", tried.run("check", "--from", "names", "-", input=image), 0, b"-\tok\npiped.adf\tok\n", "2 images: 2 ok")
+    for words in ("check - -", "check ./- - piped.adf -", "check --from - -", "check --from - --null piped.adf -", "check - --from -"):
         tried.report.check(f"standard input twice: {words}", tried.run(*words.split(), input=image), 1, b"", "FILE '-' is standard input", "only once")
     os.remove("-")
 
@@ -2160,6 +2167,15 @@ def bad_blocks(tried: Commands) -> None:
         tried.rows(lacking(words.format("wrong.txt"), words.format("wrong.txt"), "'wrong.txt', line 4: the number of one of the image's 1,760 blocks is expected"))
         tried.rows(lacking(words.format("missing.txt"), words.format("missing.txt"), "cannot read 'missing.txt'"))
     tried.rows(row("where with a list of bad blocks", "where --bad good.txt bad.adf 3 880", 0, "3  cyl 0 head 0 sector 3  free\n3  unread\n880  cyl 40 head 0 sector 0  root\n"))
+    tried.rows(
+        lacking("check --bad", "check --bad wrong.txt bad.adf", "'bad.adf' is not checked: line 4 of the list of bad blocks names none of its 1,760 blocks"),
+        lacking("check --bad of no file", "check --bad missing.txt bad.adf", "cannot read 'missing.txt'"),
+        row("check with a list of free blocks", "check --bad good.txt bad.adf", 0, "ok\n"),
+        wrong("check --bad of two images", "check --bad good.txt bad.adf bad.adf", "'--bad <FILE>'", "only one FILE"),
+        wrong("check --bad beside a list of names", "check --bad good.txt --from names bad.adf", "'--bad <FILE>'", "only one FILE"),
+        wrong("check --bad of a list of names", "check --bad good.txt --from names", "'--bad <FILE>'", "only one FILE"),
+        wrong("check --bad of a directory", "check --bad good.txt .", "--bad lists the blocks of one image, and FILE is a directory"),
+    )
     tried.rows(wrong("--bad without --damaged", "extract --bad good.txt bad.adf", "--damaged", "Usage"))
 
 

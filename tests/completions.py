@@ -60,6 +60,7 @@ ROWS = [
     # Files and directories of the host.
     Row("adf_serve delete --all", "wo", ["work.adf"]),
     Row("adf_serve check work.adf", "wo", ["work.adf"]),
+    Row("adf_serve check --from", "wo", ["work.adf"]),
     Row("adf_serve mkdir --out", "wo", ["work.adf"]),
     Row("adf_serve boot --save other.adf", "wo", ["work.adf"]),
     Row("adf_serve add other.adf", "wo", ["work.adf"]),

@@ -203,8 +203,8 @@ class Reading(Image):
         return Owned("free" if self.long(self.root, 78) == 0 or self.is_free(block) else "lost")
 
 
-def words_of(owned: Owned) -> str:
-    """What a block is, in the words of the text."""
+def words_of(owned: Owned, spans: bool = True) -> str:
+    """What a block is, in the words of the text, of a data block with its bytes or without."""
     path = "".join(f"%{ord(it):02X}" if ord(it) < 32 or 127 <= ord(it) < 160 else it for it in owned.path or "")
     return {
         "boot": "boot block",
@@ -212,7 +212,7 @@ def words_of(owned: Owned) -> str:
         "bitmap": f"bitmap block {owned.number}",
         "directory": f"header of {path}/",
         "file": f"header of {path}",
-        "data": f"data {owned.number} of {path}, bytes {owned.first} to {owned.last}",
+        "data": f"data {owned.number} of {path}" + f", bytes {owned.first} to {owned.last}" * spans,
         "extension": f"extension {owned.number} of {path}",
         "lost": "lost",
         "free": "free",
@@ -239,6 +239,45 @@ def objects_of(image: Reading, places: List[Place], asked: List[int], bad: Optio
 def unread_of(block: int, bad: Optional[Set[int]]) -> Dict[str, bool]:
     """The member that says whether a block could not be read, if there is a list of such blocks."""
     return {} if bad is None else {"unread": block in bad}
+
+
+def suspects_of(image: Reading, bad: Set[int]) -> List[Tuple[int, Owned, Optional[int]]]:
+    """The blocks of a list that are not free, in order, with their owners and the headers of their entries."""
+    headers = {block: key for key, blocks in image.own.items() if key != image.root for block in blocks}
+    owned = [(it, image.owned(it), headers.get(it)) for it in sorted(bad)]
+    return [it for it in owned if it[1].owner != "free"]
+
+
+def is_told(path: Optional[str]) -> bool:
+    """Whether a path has at most 255 bytes. A longer one is not told of a suspect block."""
+    return len(path or "") <= 255
+
+
+def suspect_line(block: int, owned: Owned, header: Optional[int]) -> str:
+    """The line of a block of a list."""
+    if is_told(owned.path):
+        return f"suspect block {block}, {words_of(owned, False)}\n"
+    kind = "directory" if owned.owner == "directory" else "file"
+    return f"suspect block {block}, {words_of(owned._replace(owner='file' if kind == 'directory' else owned.owner, path=''), False)}the {kind} at block {header}\n"
+
+
+def suspect_object(block: int, owned: Owned, header: Optional[int]) -> Dict[str, object]:
+    """The object of a block of a list."""
+    data = owned.number if owned.owner == "data" else None
+    path = owned.path if is_told(owned.path) else None
+    return {"block": block, "header": header, "data": data, "path": path, "owner": owned.owner, "number": owned.number}
+
+
+def fault_of_check(room: Room, name: str, image: Reading, bad: Set[int]) -> Optional[str]:
+    """What is wrong with the suspect blocks that `check` reports of an accepted image, by a list in `bad.txt`."""
+    suspects = suspects_of(image, bad)
+    lines = "ok\n" if image.long(image.root, 78) else "ok validated\n"
+    lines += "".join(suspect_line(*it) for it in suspects)
+    fault = fault_of(room.run("check", "--bad", "bad.txt", name), 0, lines.encode())
+    ran = room.run("check", "--json", "--bad", "bad.txt", name)
+    fault = fault or fault_of(ran, 0, None)
+    told = b"" if fault else json.dumps(json.loads(ran.output)["suspects"]).encode() + b"\n"
+    return fault or fault_of_json(told, [suspect_object(*it) for it in suspects])
 
 
 # ---- what names a block of a refused image
@@ -393,6 +432,7 @@ def fault_of_blocks(room: Room, name: str, chance: random.Random, most: int = 9_
         fault = fault or fault_of(room.run("where", *options, name, *words), 0, lines_of(image, places, asked, bad))
         ran = room.run("where", "--json", *options, name, *words)
         fault = fault or fault_of(ran, 0, None) or fault_of_json(ran.output, objects_of(image, places, asked, bad))
+        fault = fault or (None if bad is None else fault_of_check(room, name, image, bad))
     for key in chance.sample(sorted(image.own), min(20, len(image.own))):
         path = "" if key == image.root else image.path(key)
         if not {"\0"} & set(path):
@@ -559,14 +599,19 @@ def unread_blocks(room: Room) -> None:
     room.succeeds("where an empty list is, as JSON", "where", "--json", "--bad", "none.txt", "small.adf", "8", output=object)
     lines = b"refused BadSum 8\n8  cyl 0 head 0 sector 8  root\n8  fault BadSum\n11  cyl 0 head 1 sector 0  named by nothing\n11  unread\n"
     room.report.check("where unread blocks of a refused image are", room.run("where", "--bad", "bad.txt", "hurt.adf", "8", "11"), 3, lines, "its checksum is wrong")
+    room.succeeds("suspect blocks of a list", "check", "--bad", "bad.txt", "small.adf", output=b"ok\nsuspect block 9, bitmap block 0\n")
+    room.succeeds("no suspect blocks of an empty list", "check", "--bad", "none.txt", "small.adf", output=b"ok\n")
+    room.report.check("no suspect blocks of a refused image", room.run("check", "--bad", "bad.txt", "hurt.adf"), 3, b"refused BadSum 8\n", "its checksum is wrong")
     for image in ("small.adf", "hurt.adf"):
         for line in ("x", "16", "c0.h0.s11", "3 4"):
             room.write("wrong.txt", f"5\n{line}\n".encode())
             said = "'wrong.txt', line 2: the number of one of the image's 16 blocks is expected"
             for words in (["map", "--bad", "wrong.txt", image], ["map", "--json", "--bad", "wrong.txt", image], ["where", "--bad", "wrong.txt", image, "8"], ["where", "--bad", "wrong.txt", image, "99"]):
                 room.report.check(f"{' '.join(words)}: {line}", room.run(*words), 2, b"", said)
+            said = f"'{image}' is not checked: line 2 of the list of bad blocks names none of its 16 blocks"
+            room.report.check(f"check --bad wrong.txt {image}: {line}", room.run("check", "--bad", "wrong.txt", image), 2, b"", said)
         room.write("long.txt", bytes(4_194_305))
-        for words in (["map", "--bad", "{}", image], ["where", "--json", "--bad", "{}", image, "8"]):
+        for words in (["map", "--bad", "{}", image], ["where", "--json", "--bad", "{}", image, "8"], ["check", "--bad", "{}", image]):
             for list, fault in (("missing.txt", "cannot read 'missing.txt'"), ("long.txt", "'long.txt' has more than 4,194,304 bytes")):
                 room.report.check(f"{words[0]} --bad {list} of {image}", room.run(*(it.format(list) for it in words)), 2, b"", fault)
 

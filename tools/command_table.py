@@ -13,7 +13,7 @@ OTHER_WORDS = TABLE.with_name("other_words.rt")
 TOKEN = re.compile(r'"(?:[^"\\]|\\.)*"|[A-Za-z_][A-Za-z0-9_]*(?:::[A-Za-z_][A-Za-z0-9_]*)*|[&\[\]{}(),:]')
 Value = Union[str, bool, None, "Struct", List["Value"]]
 # What stands for a value of an option or for an argument.
-KINDS = {"FILE": "file", "DIR": "dir", "IMAGE": "file", "SCRIPT": "file", "PATH": "path", "OLD": "path", "NEW": "path", "NAME": "name",
+KINDS = {"FILE": "file", "DIR": "dir", "IMAGE": "file", "SCRIPT": "file", "LIST": "file", "PATH": "path", "OLD": "path", "NEW": "path", "NAME": "name",
          "N": "number", "WHEN": "date", "KEY": "key", "LETTERS": "letters", "TEXT": "text", "BLOCK": "number"}
 
 
@@ -45,10 +45,10 @@ class Argument(NamedTuple):
         return KINDS[self.name]
 
     def has_more(self) -> bool:
-        return self.kind in ("OneOrMore", "Any")
+        return self.kind in ("OneOrMore", "Unless", "Any")
 
     def may_lack(self) -> bool:
-        return self.kind in ("Optional", "Any")
+        return self.kind in ("Optional", "Unless", "Any")
 
 
 class Command(NamedTuple):

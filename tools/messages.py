@@ -53,7 +53,7 @@ PARTS = [
         {"adf_serve": [ARMS, CONSTANTS]},
     ),
     Part("Errors of AmigaDOS", "Standard output has `refused NUMBER PATH`.", "3", {"adf_cli/refused": [ARMS]}),
-    Part("Changes and entries", "They may end a text that names the file.", "2", {"adf_import": [], "adf_export": [], "adf_rescue": [], "adf_rescue/doubt": [FORMAT, WHOLE, CONSTANTS], "adf_rescue/missing_text": [FORMAT], "adf_where": [], "adf_record/*fault*": [], "ados_validate": []}),
+    Part("Changes and entries", "They may end a text that names the file.", "2", {"adf_import": [], "adf_export": [], "adf_rescue": [], "adf_rescue/doubt": [FORMAT], "adf_rescue/missing_text": [FORMAT], "adf_where": [], "adf_record/*fault*": [], "ados_validate": []}),
     Part("Files of the host", "They end a text that names the file.", "2", {"adf_host": [], "adf_host/trees/*": []}),
     Part("Checked images", "They end a text that names the image.", "2", {"adf_archive": [FORMAT]}),
     Part("Faults of images", "They end a text that names the block and the path.", "3", {"ados_faults": [FORMAT, WHOLE, ARMS, CONSTANTS]}),
@@ -64,11 +64,16 @@ ADVICE: List[Tuple[str, str]] = [
     (r"in the new image|has its name there|its directory is not there|there is no room|not as it was to be|read back", "`extract --damaged --to` writes it to the host"),
     (r"is \{word\}: |^its header |^block \{block\} (has a wrong|could not be read|is in)|comment in its header", "Compare it with another copy; the files that are `whole` are as they were"),
     (r"(is|are) missing \(data|\{missing\}$", "Look for another copy: zeros stand for these bytes"),
+    (r"most of a list of names", "Check the files in several lists, or name their directory"),
+    (r"^'\{0?\}' names no file", "Look what made the list, as a `find` that found nothing"),
+    (r"--null takes a list", "Add `--null`"),
     (r"have no checksums", "Look into the files, or compare them with another copy: a wrong byte in one does not show"),
     (r"read as \{read\}", "Nothing: the files are read as those of the kind that the blocks show"),
     (r"missing bytes are read", "Look for a whole copy: what is missing here cannot be saved"),
     (r"has fewer than", "Give `--blocks` the number of blocks that the volume has; `extract --damaged` takes a shorter file"),
     (r"belong to no reported", "Keep the image: these blocks may hold what is left of a file"),
+    (r"lists the blocks of one image", "Give one image"),
+    (r"names none of its", "Correct this line of the list"),
     (r"unpacked first", "Unpack it with a program for this format"),
     (r"it looks like an (IPF|extended)|a hard disk with", "Use the program that the text names"),
     (r"`gw convert`", "Convert it as the text says, and check the ADF file"),
@@ -150,13 +155,14 @@ ADVICE: List[Tuple[str, str]] = [
 # Texts of faults that are not printed, because standard output says the same.
 NEVER = {"a script is faulty", "an image is refused", "an image is not checked", "not all is whole", "not all is in the new image"}
 # How texts begin that are written to standard output, or that were asked for.
-OF_OUTPUT = ("refused {", "suspect block {", "the file at block {", "adf_serve {VERSION}")
+OF_OUTPUT = ("refused {", "suspect block {", "bitmap block {i}", "data {k} of", "extension {k} of", "adf_serve {VERSION}")
 # A pattern of texts, and the exit status that follows, where it is another than that of the part.
 STATUSES: List[Tuple[str, str]] = [
     (r"in the new image|has its name there|its directory is not there|there is no room|read back", "3"),
     (r"not as it was to be", "2"),
     (r"have no checksums|read as \{read\}|neither OFS|^(OFS|FFS)$", ""),
     (r"waiting for|turned round|skipped|mounted or being|is \{word\}: |^its header |^block \{block\} (has a wrong|could not be read|is in)|comment in its header|missing \(data|incomplete files may|belong to no reported|it is a (symbolic|note)|it is neither", ""),
+    (r"lists the blocks of one image", "1"),
     (r"a volume has 16|past U\+00FF|no byte of an Amiga|is no protection", "1"),
     (r"not a volume name|has no block|1,024 bytes|line \{number\}|the script has more|^expected \{|^(a keyword|each \$k|a text in quotes|a number\b)|^(a|the|each) .*(\$k|text|line|keyword|bytes)$", "3"),
     (r"ok, \{\} refused|of \{\} images$|\{\} left$|^, \{\} refused$|^\{\w*\} (s|min|h)$", ""),

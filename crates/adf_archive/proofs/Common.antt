@@ -8,7 +8,8 @@ pub use Rattle.adf_archive.specs.Objects.{found_in, shown_tokens, suspect_tokens
 pub use Rattle.adf_archive.specs.Paths.{HasFront, HasPath, IsPathOf}
 pub use Rattle.adf_archive.specs.Report.{HasValues, HaveValues, IsOfMarks, IsReportOfSome, ShowsOnlyMarks}
 pub use Rattle.adf_archive.specs.Status.{IsBroken, IsTally, ends, ends_over, no_images, noted, tallied}
-pub use Rattle.adf_archive.specs.Suspects.{AreSuspects, IsNoSuspect, IsSuspect, IsSuspectAt, TellsSuspect, blocks_of}
+pub use Rattle.adf_archive.specs.Owned.{entry_of}
+pub use Rattle.adf_archive.specs.Suspects.{AreSuspects, HasItsPath, IsDoubted, IsSuspect, IsSuspectAt, TellsSuspect, blocks_of}
 pub use Rattle.adf_archive.specs.declared.checking.Detail.{Detail}
 pub use Rattle.adf_archive.specs.declared.report.ImageReport.{ImageReport}
 pub use Rattle.adf_archive.specs.declared.report.ShownFault.{ShownFault}
@@ -23,14 +24,15 @@ pub use Rattle.adf_io.specs.Prefix.{WritesFront}
 pub use Rattle.ados_faults.specs.Listed.{AreAllFaults, AreMarks, Marks, ShowsOtherKind, fault_of}
 pub use Rattle.ados_model.proofs.Nodes.{content_in, some_in}
 pub use Rattle.ados_model.specs.Stands.{Duty, Stands}
-pub use Rattle.ados_model.specs.Tree.{Tree, data_size, data_start, name_of, parent_of, root}
-pub use Rattle.ados_model.specs.Tree.Content.{File}
+pub use Rattle.ados_model.specs.Keys.{HasKey}
+pub use Rattle.ados_model.specs.Tree.{Content, Tree, content_at, data_size, data_start, name_of, parent_of, root}
 pub use Rattle.ados_model.specs.declared.fault.VolumeFault.{VolumeFault}
 pub use Rattle.ados_volume.specs.Owners.{Owns}
 pub use Rattle.ados_volume.specs.declared.owner.Owner.{Owner}
+pub use Rattle.ados_volume.specs.declared.owner.Owner.TheVariants.{Boot, Data, Directory, Extension, File, Free, Lost, Page, Root}
 pub use Rattle.json.specs.Token.{Token, begin_array, begin_object, end_object, key, number, string}
 pub use Rattle.std.proofs.lemmas.Bool.{cases_lt}
-pub use Rattle.std.proofs.lemmas.List.{append-nil, drop-drop, drop-take, ext_get_or, get_or-append_right, get_or-map, get_or_append_left, get_or_default, length-drop, length-map, length-replicate, length-take-le, map-append, take-append-drop, take_all, take_more}
+pub use Rattle.std.proofs.lemmas.List.{append-nil, drop-drop, drop-take, ext_get_or, get_or-append_right, get_or-map, get_or_append_left, get_or_default, get_or_past, length-drop, length-map, length-replicate, length-take-le, map-append, take-append-drop, take_all, take_more}
 pub use Rattle.std.proofs.lemmas.List.Elements.{All-contains, All-nil, All-push, Contains-append_left, Contains-push}
 pub use Rattle.std.specs.Fn.{FnReturns}
 pub use Rattle.std.specs.Io.KnownBytes.{Appends}

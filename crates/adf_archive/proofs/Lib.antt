@@ -4,7 +4,10 @@ pub mod Chunks
 pub mod Climbing
 pub mod Gathered
 pub mod Listed
+pub mod Marking
+pub mod Naming
 pub mod Repeating
+pub mod Searching
 pub mod Shown
 pub mod Sizes
 pub mod Suspecting

@@ -1,7 +1,10 @@
 -- The output for images.
 use Rattle.std.specs.Prelude.{ℕ, suc, false, if◌then◌else◌, List, [], ◌∷◌, ◌++◌, get_or, flat_map, decimal, codes, Option, Some, None, option_map, Vec}
 use Rattle.std.specs.Global.{Global}
+use Rattle.std.specs.Option.{option_map_or}
 use Rattle.std.specs.String.{string_bytes}
+use Rattle.ados_volume.specs.declared.owner.Owner.{Owner}
+use Rattle.ados_volume.specs.declared.owner.Owner.TheVariants.{Directory}
 use Rattle.adf_text.specs.Plain.{plain}
 use Rattle.adf_archive.specs.declared.report.AcceptedImage.{AcceptedImage}
 use Rattle.adf_archive.specs.declared.report.ImageReport.{ImageReport}
@@ -12,6 +15,7 @@ use Rattle.adf_archive.specs.declared.suspects.Suspect.{Suspect}
 use Rattle.adf_archive.specs.declared.telling.Form.{Form}
 use Rattle.adf_archive.specs.Words.{kind_word, size_word}
 use Rattle.adf_archive.specs.Objects.{object_line}
+use Rattle.adf_archive.specs.Owned.{entry_of, owner_text, slash}
 
 -- a line with these words after a prefix
 abbrev pub line_behind : List ℕ → List ℕ → List ℕ
@@ -25,22 +29,31 @@ refused_words word block = codes "refused " ++ word ++ 32 ∷ decimal block
 abbrev pub accepted_words : AcceptedImage → List ℕ
 accepted_words told = if told.validated then codes "ok validated" else codes "ok"
 
--- a path, with control characters as escapes; without a path, the block of the file's header
-abbrev pub path_or_header : Option (List ℕ) → ℕ → List ℕ
-path_or_header (Some path) file = plain false path
-path_or_header None file = codes "the file at block " ++ decimal file
+-- an entry without a path, up to the block of its header
+abbrev pub header_front : Owner → List ℕ
+header_front Directory = codes "the directory at block "
+header_front owner = codes "the file at block "
 
--- the file of a suspect block
-abbrev pub file_words : Suspect → List ℕ
-file_words suspect = path_or_header (option_map string_bytes suspect.path) suspect.file
+abbrev pub header_words : Owner → ℕ → List ℕ
+header_words owner entry = header_front owner ++ decimal entry
 
--- `suspect block BLOCK, data PLACE of `
-abbrev pub place_words : ℕ → ℕ → List ℕ
-place_words block place = codes "suspect block " ++ decimal block ++ codes ", data " ++ decimal place ++ codes " of "
+-- the path of an entry, with control characters as escapes, and a slash behind that of a directory; without a path, the block of the
+-- header; nothing for a block that belongs to no entry
+abbrev pub path_words : ℕ → Owner → Option (List ℕ) → List ℕ
+path_words block owner (Some path) = plain false path ++ slash owner
+path_words block owner None = option_map_or (header_words owner) (entry_of block owner) []
 
--- `suspect block BLOCK, data PLACE of PATH`
+-- the entry of a suspect block
+abbrev pub entry_words : Suspect → List ℕ
+entry_words suspect = path_words suspect.block suspect.owner (option_map string_bytes suspect.path)
+
+-- `suspect block BLOCK, `
+abbrev pub block_words : ℕ → List ℕ
+block_words block = codes "suspect block " ++ (decimal block ++ codes ", ")
+
+-- `suspect block BLOCK, ` and what the block is, as in `data PLACE of PATH`
 abbrev pub suspect_words : Suspect → List ℕ
-suspect_words suspect = place_words suspect.block suspect.place ++ file_words suspect
+suspect_words suspect = block_words suspect.block ++ owner_text suspect.owner ++ entry_words suspect
 
 -- the line of a suspect block
 abbrev pub suspect_line : List ℕ → Suspect → List ℕ

@@ -15,6 +15,9 @@ use Rattle.adf_archive.specs.declared.report.ImageReport.{ImageReport}
 use Rattle.adf_archive.specs.declared.report.ImageReport.TheVariants.{Accepted, Refused, WrongSize, NotChecked}
 use Rattle.adf_archive.specs.declared.report.ShownFault.{ShownFault}
 use Rattle.adf_archive.specs.declared.suspects.Suspect.{Suspect}
+use Rattle.adf_archive.specs.Owned.{entry_of, owner_word, position_of}
+use Rattle.ados_volume.specs.declared.owner.Owner.{Owner}
+use Rattle.ados_volume.specs.declared.owner.Owner.TheVariants.{Data}
 use Rattle.adf_archive.specs.Words.{kind_word, size_word}
 
 -- the DOS type of a disk: `DOS\` and its last byte as a number
@@ -79,11 +82,25 @@ faults_tokens (Refused told) = flat_map shown_tokens told.faults.items
 faults_tokens (WrongSize fault) = fault_tokens (size_word fault) 0 None None None
 faults_tokens (NotChecked why) = []
 
+-- the position of a data block in its file
+abbrev pub data_place : Owner → Option ℕ
+data_place (Data file place) = Some place
+data_place owner = None
+
+-- the members on a suspect block itself, with the path of its entry
+abbrev pub place_tokens : Suspect → List Token
+place_tokens suspect =
+    key (codes "block") ∷ number (decimal suspect.block)
+    ∷ key (codes "header") ∷ number_token (entry_of suspect.block suspect.owner)
+    ∷ key (codes "data") ∷ number_token (data_place suspect.owner) ∷ key (codes "path") ∷ string_token (option_map string_bytes suspect.path) ∷ []
+
+-- the members on what a block is
+abbrev pub owner_tokens : Owner → List Token
+owner_tokens owner = key (codes "owner") ∷ string (owner_word owner) ∷ key (codes "number") ∷ number_token (position_of owner) ∷ []
+
 -- the object of a suspect block
 abbrev pub suspect_tokens : Suspect → List Token
-suspect_tokens suspect =
-    begin_object ∷ key (codes "block") ∷ number (decimal suspect.block) ∷ key (codes "header") ∷ number (decimal suspect.file)
-    ∷ key (codes "data") ∷ number (decimal suspect.place) ∷ key (codes "path") ∷ string_token (option_map string_bytes suspect.path) ∷ end_object ∷ []
+suspect_tokens suspect = begin_object ∷ (place_tokens suspect ++ (owner_tokens suspect.owner ++ end_object ∷ []))
 
 -- the member with the suspect blocks
 abbrev pub suspects_tokens : List Suspect → List Token

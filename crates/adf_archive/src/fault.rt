@@ -11,6 +11,9 @@ pub enum ArchiveFault {
     /// An image was not read, or could not be checked.
     #[error("an image is not checked")]
     NotChecked,
+    /// There is a list of blocks that could not be read, and there may be more than one image.
+    #[error("--bad lists the blocks of one image, and FILE is a directory")]
+    OneImage,
     #[error("the output cannot be written")]
     Output,
     #[error("there is not enough memory")]

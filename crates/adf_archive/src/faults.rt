@@ -19,10 +19,10 @@ pub(crate) fn refused(
     alloc: Global,
     image: &Image,
     fault: VolumeFault,
-    detail: Detail,
+    detail: Detail<'_>,
 ) -> Result<ImageReport, AllocError>
     requires { Shows image.now fault.kind fault.block }
-    ensures { IfOk result (IsReportFor detail image.now) }
+    ensures { IfOk result (IsReportFor detail.entry image.now) }
 {
     let found = all_faults(alloc, image, MOST_FAULTS)?;
     if detail.all {
@@ -38,14 +38,14 @@ fn told(
     found: &AllFaults,
     faults: &[VolumeFault],
     more: bool,
-    detail: Detail,
+    detail: Detail<'_>,
 ) -> Result<ImageReport, AllocError>
     requires some { 0 < length faults.now }
     requires shown { All (λ fault. Shows image.now fault.kind fault.block) faults.now }
     requires marks { AreMarks image.now found.now.marks.items }
     requires found { AreAllFaults image.now 1000 found.now.more found.now.faults.items }
     requires each { detail.all ≡ true → AreAllFaults image.now 1000 more faults.now }
-    ensures { IfOk result (IsReportFor detail image.now) }
+    ensures { IfOk result (IsReportFor detail.entry image.now) }
 {
     Ok(ImageReport::Refused(RefusedImage {
         kind: image.boot_kind(),
@@ -101,7 +101,7 @@ fn shown_faults(
     image: &Image,
     marks: &[Option<Mark>],
     faults: &[VolumeFault],
-    detail: Detail,
+    detail: Detail<'_>,
 ) -> Result<Vec<ShownFault>, AllocError>
     ensures faults { IfOk result (λ shown. map (λ each. each.fault) shown.items ≡ faults.now) }
     ensures values { IfOk result (λ shown. All (HasValues image.now marks.now) shown.items) }

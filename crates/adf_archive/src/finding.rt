@@ -1,8 +1,12 @@
 //! The image files that the arguments of a command name.
-ghost use Rattle.std.specs.Prelude.{◌≡◌, ◌↔◌, ◌≤◌, ◌+◌, false, IfOk, OnOk, IsTrue, length, vec_len};
+ghost use Rattle.std.specs.Prelude.{◌≡◌, ◌↔◌, ◌∷◌, [], false, IfOk, OnOk, IsTrue, map};
+ghost use Rattle.std.specs.String.{string_bytes};
 ghost use Rattle.adf_archive.specs.Endings.{EndsIn, HasImageEnding};
+ghost use Rattle.adf_archive.specs.NameLists.{AreOwn};
+ghost use Rattle.adf_archive.specs.steps.Adding.{AddsOwn};
 
 use crate::found_file::FoundFile;
+use crate::name_list::add_listed;
 use crate::names::{TextName, names_in, text_name};
 use adf_cli::ImageFile;
 use adf_host::read_names;
@@ -23,7 +27,7 @@ pub struct FoundImages {
     /// For each of these paths, the number of its bytes that are the argument's directory in which it was found; `None` for
     /// an argument.
     pub tops: Vec<Option<usize>>,
-    /// Whether an argument names a directory.
+    /// Whether an argument or a name of the list is that of a directory.
     pub in_directory: bool,
     /// What a person is told of the search.
     pub remarks: Vec<Remark>,
@@ -58,8 +62,9 @@ enum Look {
     Neither,
 }
 
-/// The image files that these arguments name. An argument's own file counts with any name. In a directory, and in all
-/// directories below it, files with the ending of an image count, in the order of the bytes of their names.
+/// The image files that these arguments name, and then those of the names of a list. An argument's own file counts with any
+/// name. In a directory, and in all directories below it, files with the ending of an image count, in the order of the bytes of
+/// their names.
 ///
 /// An argument may be a link. In a directory a link to a file counts as that file, and a link to a directory is not followed.
 /// An unreadable path counts as an image, so that the check reports it, and so does any name that is not UTF-8.
@@ -67,8 +72,10 @@ pub fn image_files<R: Files>(
     rt: &R,
     alloc: Global,
     words: &[&str],
+    names: &[&[u8]],
 ) -> Result<FoundImages, AllocError>
-    ensures { IfOk result (λ found. found.in_directory ≡ false → vec_len found.paths ≤ length words.now) }
+    ensures { IfOk result (λ found. found.in_directory ≡ false →
+        AreOwn (map (λ word. word.now) words.now) (map (λ name. name.now) names.now) (map string_bytes found.paths.items)) }
 {
     let mut found = FoundImages {
         paths: Vec::new(alloc),
@@ -77,23 +84,39 @@ pub fn image_files<R: Files>(
         in_directory: false,
         remarks: Vec::new(alloc),
     };
-    for place in 0..words.len() {
-        let word = words[place];
-        if fs::metadata(rt, word).is_ok_and(|met| met.is_dir()) {
-            find_below(rt, alloc, word, &mut found)?;
-            found.in_directory = true;
-        } else {
-            found.add(String::from_str(alloc, word)?, true, None)?;
-        }
+    for word in words {
+        found.add_word(rt, alloc, *word)?;
     }
+    add_listed(rt, alloc, names, &mut found)?;
     Ok(found)
 }
 
 impl FoundImages {
+    /// Adds the images that an argument names: its file, or those in its directory.
+    pub(crate) fn add_word<R: Files>(
+        &mut self,
+        rt: &R,
+        alloc: Global,
+        word: &str,
+    ) -> Result<(), AllocError>
+        ensures { OnOk result (AddsOwn self.old self.new (word.now ∷ [])) }
+    {
+        if fs::metadata(rt, word).is_ok_and(|met| met.is_dir()) {
+            find_below(rt, alloc, word, self)?;
+            self.in_directory = true;
+            return Ok(());
+        }
+        self.add(String::from_str(alloc, word)?, true, None)
+    }
+
     /// Adds a path.
-    fn add(&mut self, path: String, is_hosts: bool, top: Option<usize>) -> Result<(), AllocError>
-        ensures grows { OnOk result (vec_len self.new.paths ≡ vec_len self.old.paths + 1) }
-        ensures directory { OnOk result (self.new.in_directory ≡ self.old.in_directory) }
+    pub(crate) fn add(
+        &mut self,
+        path: String,
+        is_hosts: bool,
+        top: Option<usize>,
+    ) -> Result<(), AllocError>
+        ensures { OnOk result (AddsOwn self.old self.new (string_bytes path ∷ [])) }
     {
         self.are_hosts.push(is_hosts)?;
         self.tops.push(top)?;

@@ -1,11 +1,13 @@
 //! The lines of a report on an image.
 ghost use Rattle.std.specs.Prelude.{◌≡◌, ◌++◌, OnOk, flat_map};
-ghost use Rattle.adf_archive.specs.Lines.{accepted_lines, fault_lines, file_words, lines_of, refused_words, line_behind, suspect_line};
+ghost use Rattle.adf_archive.specs.Lines.{accepted_lines, entry_words, fault_lines, header_front, header_words, lines_of, refused_words, line_behind, suspect_line};
 
+use crate::owned::{entry_of, owner_text, slash};
 use crate::report::{AcceptedImage, ImageReport, RefusedImage};
 use crate::suspects::Suspect;
 use crate::words::{kind_word, size_word};
 use adf_text::push_plain;
+use ados_volume::Owner;
 use std::alloc::{AllocError, Global};
 
 /// Appends the lines of a report, each after this prefix: `ok` or `ok validated`, and a line for each suspect block;
@@ -62,7 +64,7 @@ fn push_suspects(
     Ok(())
 }
 
-/// Appends `suspect block BLOCK, data PLACE of PATH`.
+/// Appends the line of a suspect block, as `suspect block BLOCK, data PLACE of PATH`.
 fn push_suspect(
     alloc: Global,
     text: &mut Vec<u8>,
@@ -72,26 +74,52 @@ fn push_suspect(
     ensures { OnOk result (text.new.items ≡ text.old.items ++ suspect_line front.now suspect.now) }
 {
     text.extend_from_slice(front)?;
-    let (block, place) = (suspect.block, suspect.place);
-    let words = format!(in alloc; "suspect block {block}, data {place} of ")?;
+    let block = suspect.block;
+    let words = format!(in alloc; "suspect block {block}, ")?;
     text.extend_from_slice(words.as_bytes())?;
-    push_file(alloc, text, suspect)?;
+    let owner = owner_text(alloc, suspect.owner)?;
+    text.extend_from_slice(owner.as_bytes())?;
+    push_entry(alloc, text, suspect)?;
     text.push(b'\n')?;
     Ok(())
 }
 
-/// Appends the path of a suspect block's file, with escapes for control characters; if the path is too long,
-/// the block of the file's header.
-fn push_file(alloc: Global, text: &mut Vec<u8>, suspect: &Suspect) -> Result<(), AllocError>
-    ensures { OnOk result (text.new.items ≡ text.old.items ++ file_words suspect.now) }
+/// Appends the path of the entry that a suspect block belongs to, with escapes for control characters, and a slash for a directory; if
+/// the path is too long, the block of the header.
+fn push_entry(alloc: Global, text: &mut Vec<u8>, suspect: &Suspect) -> Result<(), AllocError>
+    ensures { OnOk result (text.new.items ≡ text.old.items ++ entry_words suspect.now) }
 {
-    match &suspect.path {
-        Some(path) => push_plain(text, path.as_str()),
-        None => {
-            let file = suspect.file;
-            let words = format!(in alloc; "the file at block {file}")?;
-            text.extend_from_slice(words.as_bytes())
-        }
+    if let Some(path) = &suspect.path {
+        push_plain(text, path.as_str())?;
+        return text.extend_from_slice(slash(suspect.owner).as_bytes());
+    }
+    match entry_of(suspect.block, suspect.owner) {
+        Some(entry) => push_header(alloc, text, suspect.owner, entry),
+        None => Ok(()),
+    }
+}
+
+/// Appends the block of an entry's header, which is the entry of a block with this owner.
+fn push_header(
+    alloc: Global,
+    text: &mut Vec<u8>,
+    owner: Owner,
+    entry: u32,
+) -> Result<(), AllocError>
+    ensures { OnOk result (text.new.items ≡ text.old.items ++ header_words owner entry) }
+{
+    text.extend_from_slice(header_front(owner).as_bytes())?;
+    let number = format!(in alloc; "{entry}")?;
+    text.extend_from_slice(number.as_bytes())
+}
+
+/// What stands before the block of an entry's header.
+fn header_front(owner: Owner) -> &'static str
+    ensures { result.now ≡ header_front owner }
+{
+    match owner {
+        Owner::Directory => "the directory at block ",
+        _ => "the file at block ",
     }
 }
 

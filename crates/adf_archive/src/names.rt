@@ -1,4 +1,8 @@
 //! The names in a directory of the host.
+ghost use Rattle.std.specs.Prelude.{◌≡◌, ◌⊎◌, IfOk};
+ghost use Rattle.std.specs.Str.{IsUtf8};
+ghost use Rattle.std.specs.String.{string_bytes};
+
 use std::alloc::{AllocError, Global};
 
 /// A name as text.
@@ -22,7 +26,9 @@ pub(crate) fn names_in(alloc: Global, bytes: &[u8]) -> Result<Vec<&[u8]>, AllocE
 }
 
 /// A name as text.
-pub(crate) fn text_name(alloc: Global, name: &[u8]) -> Result<TextName, AllocError> {
+pub(crate) fn text_name(alloc: Global, name: &[u8]) -> Result<TextName, AllocError>
+    ensures { IfOk result (λ named. (string_bytes named.text ≡ name.now) ⊎ ¬ (IsUtf8 name.now)) }
+{
     match str::from_utf8(name) {
         Ok(text) => Ok(TextName {
             text: String::from_str(alloc, text)?,

@@ -2,8 +2,10 @@
 ghost use Rattle.std.specs.Prelude.{◌≡◌, ◌++◌, ◌∷◌, [], OnOk, codes, flat_map, option_map};
 ghost use Rattle.json.specs.Token.{key};
 ghost use Rattle.adf_record.specs.Members.{string_token};
-ghost use Rattle.adf_archive.specs.Objects.{contents_tokens, fault_tokens, faults_tokens, found_in, kind_text, known_tokens, members_of, members_tokens, object_line, object_tokens, further_tokens, shown_tokens, suspect_tokens, suspects_tokens, wanted_in};
+ghost use Rattle.adf_archive.specs.Owned.{entry_of};
+ghost use Rattle.adf_archive.specs.Objects.{contents_tokens, data_place, fault_tokens, faults_tokens, found_in, kind_text, known_tokens, members_of, members_tokens, object_line, object_tokens, owner_tokens, place_tokens, further_tokens, shown_tokens, suspect_tokens, suspects_tokens, wanted_in};
 
+use crate::owned::{entry_of, owner_word, position_of};
 use crate::report::{Contents, ImageReport, ShownFault};
 use crate::suspects::Suspect;
 use crate::words::{kind_word, size_word};
@@ -11,6 +13,7 @@ use adf_block::BootKind;
 use adf_record::{put_flag, put_number, put_text};
 use adf_text::letter_text;
 use ados_faults::Evidence;
+use ados_volume::Owner;
 use json::Writer;
 use std::alloc::{AllocError, Global};
 
@@ -252,11 +255,49 @@ fn put_suspect(writer: &mut Writer, suspect: &Suspect) -> Result<(), AllocError>
     ensures tokens { OnOk result (writer.new.tokens ≡ writer.old.tokens ++ suspect_tokens suspect.now) }
 {
     writer.begin_object()?;
-    put_number(writer, "block", Some(u64::from(suspect.block)))?;
-    put_number(writer, "header", Some(u64::from(suspect.file)))?;
-    put_number(writer, "data", Some(u64::from(suspect.place)))?;
-    put_text(writer, "path", suspect.path.as_deref())?;
+    put_place(writer, suspect)?;
+    put_owner(writer, suspect.owner)?;
     writer.end_object()
+}
+
+/// Writes the members on a suspect block itself, with the path of its entry.
+fn put_place(writer: &mut Writer, suspect: &Suspect) -> Result<(), AllocError>
+    ensures before { writer.new.before ≡ writer.old.before }
+    ensures tokens { OnOk result (writer.new.tokens ≡ writer.old.tokens ++ place_tokens suspect.now) }
+{
+    put_number(writer, "block", Some(u64::from(suspect.block)))?;
+    put_number(writer, "header", header_of(suspect))?;
+    put_number(writer, "data", data_place(suspect.owner))?;
+    put_text(writer, "path", suspect.path.as_deref())
+}
+
+/// Writes the members on what a block is.
+fn put_owner(writer: &mut Writer, owner: Owner) -> Result<(), AllocError>
+    ensures before { writer.new.before ≡ writer.old.before }
+    ensures tokens { OnOk result (writer.new.tokens ≡ writer.old.tokens ++ owner_tokens owner) }
+{
+    put_text(writer, "owner", Some(owner_word(owner)))?;
+    put_number(writer, "number", position_of(owner))
+}
+
+/// The block of the header of the entry that a suspect block belongs to, if there is one.
+fn header_of(suspect: &Suspect) -> Option<u64>
+    ensures { result ≡ entry_of suspect.now.block suspect.now.owner }
+{
+    match entry_of(suspect.block, suspect.owner) {
+        Some(entry) => Some(u64::from(entry)),
+        None => None,
+    }
+}
+
+/// The position of a data block in its file, from 0.
+fn data_place(owner: Owner) -> Option<u64>
+    ensures { result ≡ data_place owner }
+{
+    match owner {
+        Owner::Data(_, place) => Some(u64::from(place)),
+        _ => None,
+    }
 }
 
 /// The value of the long that shows a fault.

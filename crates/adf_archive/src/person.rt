@@ -221,7 +221,7 @@ impl<'a> About<'a> {
                     format_args!("adf_serve: cannot read '{path}': name is not UTF-8"),
                 );
             }
-            WhyNot::Memory | WhyNot::Endless => {
+            WhyNot::Memory | WhyNot::Endless | WhyNot::BadLine(_, _) => {
                 print_line(faults, format_args!("adf_serve: '{path}' {why}"));
             }
         }

@@ -23,14 +23,15 @@ const ALONE: Form = Form {
 };
 
 /// What is reported of the image: its first fault.
-const FIRST_FAULT: Detail = Detail {
+const FIRST_FAULT: Detail<'static> = Detail {
     all: false,
     contents: false,
     filler: false,
+    bad: None,
 };
 
 /// Each fault.
-const EACH_FAULT: Detail = Detail {
+const EACH_FAULT: Detail<'static> = Detail {
     all: true,
     ..FIRST_FAULT
 };

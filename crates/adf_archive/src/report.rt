@@ -1,7 +1,7 @@
 //! The report on an image, as a value.
 use crate::suspects::Suspect;
 use adf_block::{BootKind, SizeFault};
-use adf_record::Counts;
+use adf_record::{Counts, Grouped};
 use ados_faults::Evidence;
 use ados_model::VolumeFault;
 use ados_name::Name;
@@ -26,7 +26,7 @@ pub struct AcceptedImage {
     pub validated: bool,
     /// The contents of the volume, if requested.
     pub contents: Option<Contents>,
-    /// The data blocks of files that hold nothing but a filler, if requested.
+    /// The suspect blocks, if requested.
     pub suspects: Option<Vec<Suspect>>,
 }
 
@@ -76,4 +76,7 @@ pub enum WhyNot {
     Memory,
     #[error("did not end after 2,097,152 reads")]
     Endless,
+    /// A line of the list of bad blocks, from 1, names none of so many blocks.
+    #[error("is not checked: line {} of the list of bad blocks names none of its {} blocks", .0, Grouped(u64::from(*.1)))]
+    BadLine(usize, u32),
 }

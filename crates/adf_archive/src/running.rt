@@ -1,5 +1,5 @@
 //! The check of an archive.
-ghost use Rattle.std.specs.Prelude.{◌≡◌, ◌<◌, ◌≤◌, ◌+◌, ◌^◌, ℕ, true, false, IfOk, IfErr, length, map};
+ghost use Rattle.std.specs.Prelude.{◌≡◌, ◌<◌, ◌≤◌, ◌+◌, ◌^◌, ℕ, true, false, IfOk, IfErr, IsFalse, IsTrue, is_some, length, map, option_map};
 ghost use Rattle.std.specs.List.{range_with_len};
 ghost use Rattle.std.specs.String.{string_bytes};
 ghost use Rattle.adf_archive.specs.Archive.{IsDetailOf, LeavesOff, TellsAll, TellsArchive};
@@ -26,15 +26,25 @@ use std::rt::{Clock, Files};
 use std::thread;
 use std::thread::Threads;
 
-/// Checks the images that the arguments of a command name, and reports on each in order. `faults` gets the first fault of each
-/// refused image in words, or with `--all` each fault, and the next command for it; a line for each image that another
-/// command or a mount has locked, for each that is not checked, for each compressed file of a directory and for each
+/// What is checked: the files and directories that the arguments of a command name, and then those of the names in its list.
+#[derive(Clone, Copy)]
+pub struct Asked<'a, 'b> {
+    pub job: &'b CheckJob<'a>,
+    pub names: &'b [&'b [u8]],
+    /// The bytes of the list of blocks that could not be read.
+    pub bad: Option<&'b [u8]>,
+}
+
+/// Checks the images that the arguments of a command and the names in its list name, and reports on each in order. `faults` gets
+/// the first fault of each refused image in words, or with `--all` each fault, and the next command for it; a line for each image
+/// that another command or a mount has locked, for each that is not checked, for each compressed file of a directory and for each
 /// argument's directory without an image; and of several images how many are accepted, for what the others are refused,
-/// and, with `terminal`, the progress. Where there is no image, the check fails.
+/// and, with `terminal`, the progress. Where there is no image, the check fails. With a list of blocks that could not be read there
+/// may be only one image, no directory, and no list of names.
 pub fn check_archive<R, W, F>(
     rt: &R,
     alloc: Global,
-    job: &CheckJob<'_>,
+    asked: Asked<'_, '_>,
     terminal: bool,
     writer: &mut W,
     faults: &mut F,
@@ -43,11 +53,15 @@ where
     R: Files<File = File> + PromptFiles + ReadImages + Clock + Threads + Sync,
     W: Write,
     F: Write,
-    ensures { TellsArchive job.now (W.contents writer.old) (W.contents writer.new) result }
+    ensures { TellsArchive asked.entry.job.now (map (λ name. name.now) asked.entry.names.now) (option_map (λ list. list.now) asked.entry.bad) (W.contents writer.old) (W.contents writer.new) result }
 {
-    let found = image_files(rt, alloc, &job.files)?;
-    let form = form_of(job, &found);
-    let detail = detail_of(job);
+    let job = asked.job;
+    let found = image_files(rt, alloc, &job.files, asked.names)?;
+    let form = form_of(asked, &found);
+    if is_list_of_many(asked.bad, form) {
+        return Err(ArchiveFault::OneImage);
+    }
+    let detail = detail_of(job, asked.bad);
     let paths = found.paths.as_slice();
     tell_remarks(&found.remarks, faults);
     tell_each_held(rt, alloc, &found, faults);
@@ -58,7 +72,7 @@ where
         jobs_for(rt, job.jobs),
         &|place: usize| -> ImageReport
             requires { place < length paths.now }
-            ensures { IsReportOfSome detail result }
+            ensures { IsReportOfSome detail.entry result }
         {
             report_file(
                 rt,
@@ -80,26 +94,37 @@ where
     tally.end(paths.len())
 }
 
-/// The form of the reports: with paths, unless the only argument names a file.
-fn form_of(job: &CheckJob<'_>, found: &FoundImages) -> Form
-    ensures json { result.json ≡ job.now.json }
-    ensures alone { result.paths ≡ false → (found.now.in_directory ≡ false) × (length job.now.files.items ≤ 1) }
-    ensures several { 1 < length job.now.files.items → result.paths ≡ true }
+/// The form of the reports: with paths, unless nothing but an argument that is a file was asked for.
+fn form_of(asked: Asked<'_, '_>, found: &FoundImages) -> Form
+    ensures json { result.json ≡ asked.entry.job.now.json }
+    ensures alone { result.paths ≡ false →
+        (found.now.in_directory ≡ false) × (length asked.entry.job.now.files.items ≤ 1) × (length asked.entry.names.now ≡ 0) }
+    ensures several { 1 < length asked.entry.job.now.files.items → result.paths ≡ true }
+    ensures named { 0 < length asked.entry.names.now → result.paths ≡ true }
 {
     Form {
-        json: job.json,
-        paths: found.in_directory || job.files.len() > 1,
+        json: asked.job.json,
+        paths: found.in_directory || asked.job.files.len() > 1 || !asked.names.is_empty(),
     }
 }
 
-/// The parts of each report.
-fn detail_of(job: &CheckJob<'_>) -> Detail
-    ensures { IsDetailOf job.now result }
+/// Whether there is a list of the blocks of one image, and more images may be reported.
+fn is_list_of_many(list: Option<&[u8]>, form: Form) -> bool
+    ensures many { IsTrue result → is_some list.entry ≡ true }
+    ensures alone { IsFalse result → is_some list.entry ≡ true → form.paths ≡ false }
+{
+    list.is_some() && form.paths
+}
+
+/// The parts of each report, beside a list of blocks that could not be read.
+fn detail_of<'b>(job: &CheckJob<'_>, list: Option<&'b [u8]>) -> Detail<'b>
+    ensures { IsDetailOf job.now (option_map (λ list. list.now) list.entry) result }
 {
     Detail {
         all: job.all,
         contents: job.json,
         filler: job.filler,
+        bad: list,
     }
 }
 

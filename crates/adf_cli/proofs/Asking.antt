@@ -26,3 +26,6 @@ module _ (words : List (Bor (List ℕ))) (i : ℕ) (d : Bor (List ℕ)) (inside 
 -- all of them
 pub once_all : (words : List (Bor (List ℕ))) (i : ℕ) → length words ≤ i → AreReadOnce (take i words) → AreReadOnce words
 once_all words i over once = subst AreReadOnce (take_all i words over) once
+
+pub files_all : (words : List (Bor (List ℕ))) (i : ℕ) → length words ≤ i → All (λ (word : Bor (List ℕ)). word.now ≢ codes "-") (take i words) → All (λ (word : Bor (List ℕ)). word.now ≢ codes "-") words
+files_all words i over files = subst (All (λ (word : Bor (List ℕ)). word.now ≢ codes "-")) (take_all i words over) files

@@ -1,5 +1,5 @@
 -- The changes, and the jobs for a boot block, that arguments ask for.
-use Rattle.std.specs.Prelude.{◌≡◌, ◌≢◌, ◌<◌, ◌≤◌, ◌^◌, ◌∷◌, ℕ, Bool, List, [], Option, Some, None, IsSome, All, AllPairs, option_map, codes, decimal, map}
+use Rattle.std.specs.Prelude.{◌≡◌, ◌≢◌, ◌<◌, ◌≤◌, ◌^◌, ◌∷◌, ⊤, ℕ, Bool, true, false, List, [], Option, Some, None, IsSome, is_some, All, AllPairs, option_map, codes, decimal, length, map}
 use Rattle.std.specs.Borrow.{Bor}
 use Rattle.std.specs.Option.{option_map_or}
 use Rattle.clap.specs.Matches.{first_value, matched_of, one_text, raw_values}
@@ -14,7 +14,8 @@ use Rattle.adf_cli.specs.declared.boot.BootBlock.{BootBlock}
 use Rattle.adf_cli.specs.declared.boot.BootBlock.TheVariants.{Empty, Standard, File}
 use Rattle.adf_cli.specs.declared.image_file.ImageFile.{ImageFile}
 use Rattle.adf_cli.specs.declared.job.ImageJob.{ImageJob}
-use Rattle.adf_cli.specs.declared.job.ImageJob.TheVariants.{Boot, Extract, ExtractBundle, Info, Map, Salvage, SaveBoot, Show, ShowBoot, Undelete, Validate, Where, WherePath}
+use Rattle.adf_cli.specs.declared.job.ImageJob.TheVariants.{Boot, Check, Extract, ExtractBundle, Info, Map, Salvage, SaveBoot, Show, ShowBoot, Undelete, Validate, Where, WherePath}
+use Rattle.adf_cli.specs.declared.name_list.NameList.{NameList}
 use Rattle.adf_cli.specs.declared.change.Change.{Change}
 use Rattle.adf_cli.specs.declared.change.Change.TheVariants.{Add, AddAs, Date, Protect}
 use Rattle.adf_cli.specs.declared.change.Rewrite.{Rewrite}
@@ -88,6 +89,33 @@ IsMapOf found _ = ⊥
 -- the values of an argument that can have many
 abbrev pub all_values : Found → List ℕ → List (List ℕ)
 all_values found id = option_map_or raw_values (matched_of found id) []
+
+-- the list of names is that of the option, and its names end as the other option says; without the option there is none
+abbrev pub IsNameListOf : Found → Option NameList → Type 0
+IsNameListOf found None = first_value found (codes "from") ≡ None
+IsNameListOf found (Some list) =
+    (first_value found (codes "from") ≡ Some list.file.now) × ((given : Bool) → IsFlag found (codes "null") given → list.null ≡ given)
+
+-- if the list is standard input, none of these arguments is
+abbrev pub IsOtherInput : Option NameList → List (Bor (List ℕ)) → Type 0
+IsOtherInput None words = ⊤
+IsOtherInput (Some list) words = list.file.now ≡ codes "-" → All (λ word. word.now ≢ codes "-") words
+
+-- a list of blocks is that of one image: beside it there are no list of names and no second file
+abbrev pub IsForOne : Option (Bor (List ℕ)) → Option NameList → List (Bor (List ℕ)) → Type 0
+IsForOne bad from files = is_some bad ≡ true → (is_some from ≡ false) × (length files ≤ 1)
+
+-- `check`: the files are these arguments, and the lists, the numbers and the rest are as the options say; standard input is read only
+-- once, and a list of blocks is that of one image
+abbrev pub IsCheckOf : Found → ImageJob → Type 0
+IsCheckOf found (Check job) =
+    (map (λ word. word.now) job.files.items ≡ all_values found (codes "FILE")) × IsNameListOf found job.from
+    × AreReadOnce job.files.items × IsOtherInput job.from job.files.items
+    × AreFirstBlocks found job.blocks × IsNumberOf found (codes "jobs") 1 4294967295 job.jobs
+    × ((given : Bool) → IsFlag found (codes "all") given → job.all ≡ given) × ((given : Bool) → IsFlag found (codes "json") given → job.json ≡ given)
+    × ((given : Bool) → IsFlag found (codes "filler") given → job.filler ≡ given)
+    × (first_value found (codes "bad") ≡ option_map (λ word. word.now) job.bad) × IsForOne job.bad job.from job.files.items
+IsCheckOf found _ = ⊥
 
 -- `where`: with `--path` the path is this argument, else the blocks are those that the arguments name, and the list of those that could
 -- not be read is that of the option; the image is this argument, and the form as the option says

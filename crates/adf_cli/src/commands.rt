@@ -68,7 +68,7 @@ fn argument_of<'a>(alloc: Global, row: &ArgumentRow) -> Result<Arg<'a>, AllocErr
         Kind::Option { value, .. } | Kind::Beside { value, .. } | Kind::Instead { value, .. } => {
             argument.long(row.name).value_name(value)
         }
-        Kind::OneOrMore | Kind::Any => argument.num_args(1..),
+        Kind::OneOrMore | Kind::Unless { .. } | Kind::Any => argument.num_args(1..),
         Kind::One | Kind::Dashed | Kind::Optional => argument,
     };
     match row.kind {
@@ -78,6 +78,7 @@ fn argument_of<'a>(alloc: Global, row: &ArgumentRow) -> Result<Arg<'a>, AllocErr
             excludes,
             ..
         } => argument.requires_arg(option)?.conflicts_with_all(excludes),
+        Kind::Unless { option } => argument.required_unless_present(option),
         Kind::Flag { excludes } | Kind::Instead { excludes, .. } => {
             argument.conflicts_with_all(excludes)
         }

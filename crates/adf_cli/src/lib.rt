@@ -19,6 +19,7 @@ mod image_file;
 mod job;
 mod letters;
 mod map_form;
+mod name_list;
 mod numbers;
 mod other_words;
 mod query;
@@ -42,6 +43,7 @@ pub use given::{given_words, word_of};
 pub use image_file::{ImageFile, STANDARD_STREAM};
 pub use job::{ImageJob, Job, ServeJob};
 pub use map_form::MapForm;
+pub use name_list::NameList;
 pub use query::{
     CheckJob, ExtractJob, ListForm, ListJob, ListOrder, MapJob, SalvageJob, UndeleteJob, WhereJob,
 };

@@ -1,15 +1,18 @@
 //! The jobs of commands that change no image, as values.
-ghost use Rattle.std.specs.Prelude.{◌<◌, length};
+ghost use Rattle.std.specs.Prelude.{◌≡◌, ◌<◌, None, length};
 
 use crate::block_word::BlockWord;
 use crate::image_file::ImageFile;
 use crate::map_form::MapForm;
+use crate::name_list::NameList;
 
 /// The arguments of `check`.
 #[derive(Drop)]
 pub struct CheckJob<'a> {
     /// Image files, and directories with image files in them.
     pub files: Vec<&'a str>,
+    /// A list with the names of more of them.
+    pub from: Option<NameList<'a>>,
     /// The number of blocks at the start of each file that are its image; by default all of the file is.
     pub blocks: Option<u32>,
     /// Whether every fault of an image is reported; otherwise the first one.
@@ -18,9 +21,11 @@ pub struct CheckJob<'a> {
     pub json: bool,
     /// Whether data blocks that hold nothing but the filler of a program are reported.
     pub filler: bool,
+    /// A list of blocks that could not be read, for a single image.
+    pub bad: Option<&'a str>,
     /// The number of images checked in parallel; by default the number of processors.
     pub jobs: Option<u32>,
-    ghost some: { 0 < length files.items },
+    ghost some: { from ≡ None → 0 < length files.items },
 }
 
 /// The arguments of `map`.

@@ -64,6 +64,10 @@ pub(crate) enum Kind {
     Optional,
     /// One or more values.
     OneOrMore,
+    /// One or more values; any number of them with another option, which is this.
+    Unless {
+        option: &'static str,
+    },
     /// Any number of values.
     Any,
 }
@@ -85,7 +89,7 @@ impl Kind {
     pub(crate) fn action(self) -> ArgAction {
         match self {
             Kind::Flag { .. } | Kind::With { .. } => ArgAction::SetTrue,
-            Kind::OneOrMore | Kind::Any => ArgAction::Append,
+            Kind::OneOrMore | Kind::Unless { .. } | Kind::Any => ArgAction::Append,
             _ => ArgAction::Set,
         }
     }
@@ -267,8 +271,8 @@ pub(crate) const COMMANDS: [CommandRow; 21] = [
     CommandRow {
         name: "check",
         about: "Prints `ok`, or why an image is refused. Several images, and those of a directory, get a line each",
-        examples: "Examples:\n  adf_serve check work.adf\n  adf_serve check --jobs 4 --all floppies more/work.adf\n  adf_serve check --filler floppies",
-        usage: "adf_serve check [--jobs N] [--all] [--json] [--filler] [--blocks N]\n           FILE..",
+        examples: "Examples:\n  adf_serve check work.adf\n  adf_serve check --jobs 4 --all floppies more/work.adf\n  adf_serve check --filler floppies\n  adf_serve check --bad bad.txt work.adf\n  find . -name '*.adf' -print0 | adf_serve check --from - --null",
+        usage: "adf_serve check [--jobs N] [--all] [--json] [--filler] [--blocks N]\n           FILE..\n       adf_serve check --from LIST [--null] [--jobs N] [--all] [--json]\n           [--filler] [--blocks N] [FILE..]\n       adf_serve check --bad FILE [--all] [--json] [--filler] [--blocks N]\n           IMAGE",
         group: Group::Look,
         effect: Effect::Reads,
         changes: false,
@@ -277,8 +281,11 @@ pub(crate) const COMMANDS: [CommandRow; 21] = [
             ArgumentRow { name: "all", kind: FLAG, help: "Prints every fault of an image, and not only one" },
             ArgumentRow { name: "json", kind: FLAG, help: "Prints a JSON object for each image" },
             ArgumentRow { name: "filler", kind: FLAG, help: "Also prints each data block of a file that holds nothing but the filler of a program, as that of Greaseweazle for a sector that it could not read" },
+            ArgumentRow { name: "bad", kind: Kind::Option { value: "FILE", default: None }, help: "Also prints each block that this list names and that is not free: it could not be read. The list is that of `extract --damaged`, for a single image" },
             ArgumentRow { name: "blocks", kind: NUMBER, help: "Takes the first N blocks of each file as its image, from 16 to 101,602" },
-            ArgumentRow { name: "FILE", kind: Kind::OneOrMore, help: "An image; or a directory, whose files that end in `.adf` or `.hdf` are checked, and those in all directories below it" },
+            ArgumentRow { name: "from", kind: Kind::Option { value: "LIST", default: None }, help: "Also checks the files and directories that LIST names, one on each line, after those of the command line. If LIST is `-`, standard input is the list" },
+            ArgumentRow { name: "null", kind: Kind::With { option: "from", excludes: &[] }, help: "The names in LIST end with a zero byte, as `find -print0` writes them" },
+            ArgumentRow { name: "FILE", kind: Kind::Unless { option: "from" }, help: "An image; or a directory, whose files that end in `.adf` or `.hdf` are checked, and those in all directories below it" },
         ],
     },
     CommandRow {

@@ -1,7 +1,7 @@
 //! From the arguments of a command that reads an image to its job.
-ghost use Rattle.std.specs.Prelude.{◌≡◌, IfErr, IfOk, OnOk};
+ghost use Rattle.std.specs.Prelude.{◌≡◌, ◌≢◌, ◌<◌, All, IfErr, IfOk, None, OnOk, codes, length, map, true};
 ghost use Rattle.clap.specs.Matches.{found_of};
-ghost use Rattle.adf_cli.specs.Asked.{AreReadOnce, IsExtractOf, IsInfoOf, IsMapOf, IsShowOf, IsUndeleteOf, IsWhereOf};
+ghost use Rattle.adf_cli.specs.Asked.{AreReadOnce, IsCheckOf, IsExtractOf, IsForOne, IsInfoOf, IsNameListOf, IsMapOf, IsOtherInput, IsShowOf, IsUndeleteOf, IsWhereOf, all_values};
 ghost use Rattle.adf_cli.specs.Lists.{form_of, IsFormOf, IsOrderOf, TellsNoOrder, order_word, usual_order};
 ghost use Rattle.adf_cli.specs.Maps.{IsMapFormOf, map_form_of};
 
@@ -12,6 +12,7 @@ use crate::image_file::{ImageFile, STANDARD_STREAM};
 use crate::job::ImageJob;
 use crate::letters::letters_of;
 use crate::map_form::MapForm;
+use crate::name_list::NameList;
 use crate::query::{
     CheckJob, ExtractJob, ListForm, ListJob, ListOrder, MapJob, SalvageJob, UndeleteJob, WhereJob,
 };
@@ -19,26 +20,85 @@ use crate::table::JOBS;
 use std::alloc::Global;
 
 /// The job of `check`.
-pub(crate) fn check_job<'a>(arguments: &Arguments<'a, '_>) -> Result<ImageJob<'a>, WordsFault> {
+pub(crate) fn check_job<'a>(arguments: &Arguments<'a, '_>) -> Result<ImageJob<'a>, WordsFault>
+    ensures { IfOk result (IsCheckOf (found_of arguments.now.words.now)) }
+{
     let jobs = arguments.number("jobs", &JOBS)?;
     let blocks = arguments.first_blocks()?;
-    let files = arguments.some_words("FILE")?;
-    refuse_second_input(arguments.alloc, files)?;
+    let from = name_list(arguments);
+    let files = checked_files(arguments, from)?;
+    let bad = arguments.bad_list();
+    refuse_list_of_many(arguments.alloc, bad, from, files)?;
     Ok(ImageJob::Check(CheckJob {
         files: Vec::from_slice(arguments.alloc, files)?,
+        from,
         blocks,
         all: arguments.flag("all"),
         json: arguments.flag("json"),
         filler: arguments.flag("filler"),
+        bad,
         jobs,
     }))
 }
 
-/// Refuses files of which more than one is standard input, since that can be read only once.
-fn refuse_second_input(alloc: Global, files: &[&str]) -> Result<(), WordsFault>
-    ensures { OnOk result (AreReadOnce files.now) }
+/// Refuses a list of bad blocks for more than one file, or beside a list of names: it is that of one image.
+fn refuse_list_of_many(
+    alloc: Global,
+    bad: Option<&str>,
+    from: Option<NameList<'_>>,
+    files: &[&str],
+) -> Result<(), WordsFault>
+    ensures { OnOk result (IsForOne bad.entry from.entry files.now) }
 {
-    let mut is_input_read = false;
+    if bad.is_some() && (from.is_some() || files.len() > 1) {
+        return Err(WordsFault::wrong(
+            alloc,
+            format_args!(
+                "error: '--bad <FILE>' lists the blocks of one image, so only one FILE is expected"
+            ),
+        ));
+    }
+    Ok(())
+}
+
+/// The list of names for `check`.
+fn name_list<'a>(arguments: &Arguments<'a, '_>) -> Option<NameList<'a>>
+    ensures { IsNameListOf (found_of arguments.now.words.now) result }
+{
+    match arguments.given("from") {
+        Some(file) => Some(NameList {
+            file,
+            null: arguments.flag("null"),
+        }),
+        None => None,
+    }
+}
+
+/// The files of `check`, at least one if there is no list of names.
+fn checked_files<'a, 'b>(
+    arguments: &Arguments<'a, 'b>,
+    from: Option<NameList<'a>>,
+) -> Result<&'b [&'a str], WordsFault>
+    ensures words { IfOk result (λ files. map (λ word. word.now) files.now ≡ all_values (found_of arguments.now.words.now) (codes "FILE")) }
+    ensures some { IfOk result (λ files. from.entry ≡ None → 0 < length files.now) }
+    ensures once { IfOk result (λ files. AreReadOnce files.now × IsOtherInput from.entry files.now) }
+{
+    let Some(list) = from else {
+        let files = arguments.some_words("FILE")?;
+        refuse_second_input(arguments.alloc, files, false)?;
+        return Ok(files);
+    };
+    let files = arguments.words("FILE");
+    refuse_second_input(arguments.alloc, files, list.file == STANDARD_STREAM)?;
+    Ok(files)
+}
+
+/// Refuses files of which more than one is standard input, since that can be read only once; or one, if something else reads it.
+fn refuse_second_input(alloc: Global, files: &[&str], is_taken: bool) -> Result<(), WordsFault>
+    ensures once { OnOk result (AreReadOnce files.now) }
+    ensures files { OnOk result (is_taken ≡ true → All (λ word. word.now ≢ codes "-") files.now) }
+{
+    let mut is_input_read = is_taken;
     for file in files {
         if *file != STANDARD_STREAM {
             continue;

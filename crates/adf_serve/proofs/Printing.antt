@@ -1,5 +1,5 @@
 -- The output for an image, whole or in part.
-use Rattle.std.proofs.Common.{◌≡◌, ◌≢◌, ◌↔◌, ℕ, Bor, ◌⊎◌, IsTrue, IsFalse, codes, inl, inr, Bool, true, false, List, [], ◌++◌, Option, Some, None, option_map, Ok, Err, IfErr, OnErr, OnOk, IsErrAnd, refl, sym, ap, ap₂, ◌∙◌, subst}
+use Rattle.std.proofs.Common.{◌≡◌, ◌≢◌, ◌↔◌, ℕ, Bor, ◌⊎◌, IsTrue, IsFalse, codes, inl, inr, Bool, true, false, List, [], ◌++◌, Option, Some, None, MatchOption, option_map, Ok, Err, IfErr, OnErr, OnOk, IsErrAnd, refl, sym, ap, ap₂, ◌∙◌, subst}
 use Rattle.std.specs.Io.KnownBytes.{Appends, Keeps}
 use Rattle.std.proofs.KnownBytes.{Keeps-refl}
 use Rattle.ados_model.specs.Accepted.{Accepts, HandsBack, IsRefusal}
@@ -19,7 +19,7 @@ use Rattle.adf_export.specs.declared.fault.OutFault.TheVariants as out
 use Rattle.adf_export.specs.Printing.{IsPrinted, IsPrintFault}
 use Rattle.adf_io.proofs.Prefixes.{writes_first}
 use Rattle.adf_serve.specs.declared.fault.CommandFault.{CommandFault}
-use Rattle.adf_serve.specs.declared.fault.CommandFault.TheVariants.{Dos, Extracted, ImagesRefused, LeftOut, Memory, NotChecked, NotWhole, Output, Refused}
+use Rattle.adf_serve.specs.declared.fault.CommandFault.TheVariants.{Dos, Extracted, ImagesRefused, LeftOut, Memory, NotChecked, NotWhole, OneImage, Output, Refused}
 use Rattle.adf_serve.specs.declared.refusal.Refusal.{Refusal}
 use Rattle.adf_serve.specs.declared.refusal.DosRefusal.{DosRefusal}
 use Rattle.adf_serve.specs.Asked.{AnswersDisk}
@@ -29,7 +29,7 @@ use Rattle.adf_serve.specs.Commands.{Does, DoesJob, Ending, EndsJob, EndsOff, Le
 use Rattle.adf_serve.specs.Commands.Prints.{OnlyFaults, OfMade, OfBlocks, OfBytes, OfDeleted, OfImages, OfMap, OfRescue, Unsaid}
 use Rattle.adf_serve.specs.NewImages.{IsMade, Made, PutsImage, PutsMade, WritesImage, WritesMade}
 use Rattle.std.proofs.lemmas.List.{append-nil}
-use Rattle.adf_archive.specs.Archive.{TellsArchive, told_in}
+use Rattle.adf_archive.specs.Archive.{told_in}
 use Rattle.adf_archive.specs.declared.fault.ArchiveFault.{ArchiveFault}
 use Rattle.adf_archive.specs.declared.fault.ArchiveFault.TheVariants as archive
 use Rattle.adf_archive.specs.Words.{kind_word}
@@ -48,7 +48,7 @@ use Rattle.adf_where.specs.declared.where_fault.WhereFault.{WhereFault}
 use Rattle.adf_where.specs.declared.where_fault.WhereFault.TheVariants as places
 use Rattle.adf_cli.specs.declared.block_word.BlockWord.{BlockWord}
 use Rattle.adf_export.specs.Words.{LeadsTo}
-use Rattle.adf_serve.specs.Archives.{EndsArchive, IsToldArchive}
+use Rattle.adf_serve.specs.Archives.{EndsArchive, IsListFault, IsToldArchive, IsUnlisted, TellsListed}
 use Rattle.adf_serve.specs.Deleted.{IsDeletedText, IsUndeleteEnd}
 use Rattle.adf_serve.specs.Mapped.{IsBareMap, IsKindRefusal, IsMapReport}
 use Rattle.adf_where.specs.FaultyMap.{IsFaultyMap}
@@ -290,19 +290,59 @@ told_front : (old new : Option (List ℕ)) (text : List ℕ) → Appends old new
 told_front old new text told = (text, told, ([], sym (append-nil text)))
 
 -- the fault of a check of images, as that of the command
-pub archive_ends : (job : CheckJob) (old new : Option (List ℕ)) (fault : ArchiveFault) (told : CommandFault) → TellsArchive job old new (Err fault) → IsToldArchive fault told → EndsArchive job old new (Err told)
+pub archive_ends : (job : CheckJob) (old new : Option (List ℕ)) (fault : ArchiveFault) (told : CommandFault) → TellsListed job old new (Err fault) → IsToldArchive fault told → EndsArchive job old new (Err told)
 archive_ends job old new archive.Refused told h same = subst (λ (f : CommandFault). EndsArchive job old new (Err f)) (sym same) h
 archive_ends job old new archive.NotChecked told h same = subst (λ (f : CommandFault). EndsArchive job old new (Err f)) (sym same) h
+archive_ends job old new archive.OneImage told h same = subst (λ (f : CommandFault). EndsArchive job old new (Err f)) (sym same) h
 archive_ends job old new archive.Output told h same = subst (λ (f : CommandFault). EndsArchive job old new (Err f)) (sym same) h
-archive_ends job old new archive.Memory told h same = subst (λ (f : CommandFault). EndsArchive job old new (Err f)) (sym same) h
+archive_ends job old new archive.Memory told h same = subst (λ (f : CommandFault). EndsArchive job old new (Err f)) (sym same) (inr h)
+
+-- a list without names
+list_ends : (job : CheckJob) (w : Option (List ℕ)) (fault : CommandFault) → IsListFault job.from fault → EndsArchive job w w (Err fault)
+list_ends job w Memory is = inl (Keeps-refl w)
+list_ends job w ImagesRefused (list, given, none) = absurd none
+list_ends job w NotChecked (list, given, none) = absurd none
+list_ends job w OneImage (list, given, none) = absurd none
+list_ends job w Output (list, given, none) = absurd none
+list_ends job w (Refused refusal) (list, given, none) = absurd none
+list_ends job w (Dos refusal) (list, given, none) = absurd none
+list_ends job w fault is = (inl is, Keeps-refl w)
+
+pub list_failed : (job : CheckJob) (w : Option (List ℕ)) (fault : CommandFault) (done : Ending) → IsListFault job.from fault → IsErrAnd done (λ told. told ≡ fault) → EndsArchive job w w done
+list_failed job w fault (Ok x) is same = absurd same
+list_failed job w fault (Err told) is same = list_ends job w told (subst (IsListFault job.from) (sym same) is)
+
+-- what is known of a list of blocks that was not read
+of_list : (list : Option (Bor (List ℕ))) (A : Type 0) → MatchOption list ⊥ (λ file. A) → A
+of_list None A none = absurd none
+of_list (Some file) A is = is
+
+-- a list of blocks that was not read
+module _ (job : CheckJob) (w : Option (List ℕ)) where
+  unlisted : (fault : CommandFault) → IsUnlisted job fault → EndsArchive job w w (Err fault)
+  unlisted Memory is = inl (Keeps-refl w)
+  unlisted ImagesRefused is = absurd (cc (of_list job.bad (ImagesRefused ≡ Memory) is))
+  unlisted NotChecked is = absurd (cc (of_list job.bad (NotChecked ≡ Memory) is))
+  unlisted OneImage is = absurd (cc (of_list job.bad (OneImage ≡ Memory) is))
+  unlisted Output is = absurd (cc (of_list job.bad (Output ≡ Memory) is))
+  unlisted (Refused refusal) is = absurd (cc (of_list job.bad (Refused refusal ≡ Memory) is))
+  unlisted (Dos refusal) is = absurd (cc (of_list job.bad (Dos refusal ≡ Memory) is))
+  unlisted fault is = (inr is, Keeps-refl w)
+
+  pub unlisted_ends : (fault : CommandFault) (done : Ending) → IsUnlisted job fault → IsErrAnd done (λ told. told ≡ fault) → EndsArchive job w w done
+  unlisted_ends fault (Ok x) is same = absurd same
+  unlisted_ends fault (Err told) is same = unlisted told (subst (IsUnlisted job) (sym same) is)
 
 -- a check of images that ran out of memory
 archive_unsaid : (job : CheckJob) (old new : Option (List ℕ)) (fault : CommandFault) → EndsArchive job old new (Err fault) → EndsArchive job old new (Err Memory)
-archive_unsaid job old new ImagesRefused (archive, told, whole) = (archive, told_front old new (told_in archive) told)
-archive_unsaid job old new NotChecked (archive, told, whole) = (archive, told_front old new (told_in archive) told)
-archive_unsaid job old new Output front = front
+archive_unsaid job old new ImagesRefused (names, listed, (list, has, (archive, told, whole))) = inr (names, listed, (list, has, (archive, told_front old new (told_in archive) told)))
+archive_unsaid job old new NotChecked (names, listed, (list, has, (archive, told, whole))) = inr (names, listed, (list, has, (archive, told_front old new (told_in archive) told)))
+archive_unsaid job old new OneImage (names, listed, (list, has, (some, keeps))) = inl keeps
+archive_unsaid job old new Output front = inr front
 archive_unsaid job old new Memory front = front
-archive_unsaid job old new fault none = absurd none
+archive_unsaid job old new (Refused refusal) none = absurd none
+archive_unsaid job old new (Dos refusal) none = absurd none
+archive_unsaid job old new fault (is, keeps) = inl keeps
 
 -- a fault without a text has none in any form
 none_in : (json : Bool) (fault : CommandFault) → IsNoRefusal fault → told_line json fault ≡ None

@@ -8,7 +8,7 @@ use Rattle.adf_text.specs.Letters.{letters as letter_text}
 use Rattle.adf_export.specs.declared.fault.OutFault.{OutFault}
 use Rattle.adf_export.specs.declared.fault.OutFault.TheVariants as out
 use Rattle.adf_serve.specs.declared.fault.CommandFault.{CommandFault}
-use Rattle.adf_serve.specs.declared.fault.CommandFault.TheVariants.{Bitmap, Blocks, Dos, Extracted, Letter, LongBoot, Memory, Name, NoBlock, ImagesRefused, LeftOut, NotWhole, OtherVolume, Output, Refused, Script, Undelete}
+use Rattle.adf_serve.specs.declared.fault.CommandFault.TheVariants.{Bitmap, Blocks, Dos, Endless, Extracted, Letter, LongBoot, LongList, Memory, Name, NoBlock, ImagesRefused, LeftOut, NotWhole, OneImage, OtherVolume, Output, Read, Refused, Script, Undelete}
 use Rattle.adf_archive.specs.Words.{kind_word}
 use Rattle.adf_serve.specs.Refusals.{IsImageRefusal, IsSizeRefusal, told_line}
 
@@ -51,6 +51,13 @@ IsNoImage (Undelete why) = ⊥
 IsNoImage (Refused refusal) = (bytes : List ℕ) × IsSizeRefusal bytes refusal
 IsNoImage fault = ⊤
 
+-- this file was not read to its end, or memory ran out
+abbrev pub IsUnreadFile : List ℕ → CommandFault → Type 0
+IsUnreadFile path (Read file why) = file.now ≡ path
+IsUnreadFile path (Endless file) = file.now ≡ path
+IsUnreadFile path (LongList file) = file.now ≡ path
+IsUnreadFile path fault = fault ≡ Memory
+
 -- the name for an argument, by its bytes or by its letters
 abbrev pub IsNamed : Bool → List ℕ → List ℕ → Type 0
 IsNamed true word name = letter_text name ≡ word
@@ -71,6 +78,7 @@ IsBlankFault as_letters blocks word fault = IsNameFault as_letters word fault
 abbrev pub status_of : CommandFault → ℕ
 status_of (Blocks blocks) = 1
 status_of (Letter word) = 1
+status_of OneImage = 1
 status_of (Name name) = 3
 status_of (LongBoot file) = 3
 status_of (NoBlock file block blocks) = 3

@@ -1,6 +1,6 @@
 //! Lists of blocks that could not be read.
 ghost use Rattle.std.specs.Prelude.{◌<◌, [], All, IfErr, IfOk};
-ghost use Rattle.adf_serve.specs.Faults.{IsNoImage};
+ghost use Rattle.adf_serve.specs.Faults.{IsNoImage, IsUnreadFile};
 ghost use Rattle.adf_serve.specs.Unread.{AreListed, AreMarksOf};
 
 use crate::fault::CommandFault;
@@ -65,12 +65,13 @@ fn read_bad<'a, R: Files>(
 }
 
 /// The bytes of a list.
-fn read_list<'a, R: Files>(
+pub(crate) fn read_list<'a, R: Files>(
     rt: &R,
     alloc: Global,
     list: &'a str,
 ) -> Result<Vec<u8>, CommandFault<'a>>
-    ensures { IfErr result IsNoImage }
+    ensures fault { IfErr result IsNoImage }
+    ensures unread { IfErr result (IsUnreadFile list.now) }
 {
     let Ok(mut reader) = fs::open(rt, input_path(list)) else {
         return Err(CommandFault::Read(list, why_unreadable(rt, list)));

@@ -1,6 +1,6 @@
 //! Why a command fails.
 ghost use Rattle.std.specs.Prelude.{◌≡◌, IfOk, option_map};
-ghost use Rattle.adf_serve.specs.Faults.{IsNoImage, status_of};
+ghost use Rattle.adf_serve.specs.Faults.{IsNoImage, IsUnreadFile, status_of};
 ghost use Rattle.adf_serve.specs.Refusals.{told_line};
 
 use crate::refusal::{Detail, DosRefusal, Refusal, Room};
@@ -57,6 +57,13 @@ pub enum CommandFault<'a> {
     BadLine(&'a str, usize, u32),
     #[error("'{0}' has more than 4,194,304 bytes, the most of a list of bad blocks")]
     LongList(&'a str),
+    #[error("'{0}' has more than 33,554,432 bytes, the most of a list of names")]
+    LongNames(&'a str),
+    #[error("'{0}' names no file")]
+    NoNames(&'a str),
+    /// The list has a zero byte, and the names in it are lines.
+    #[error("'{0}' has a zero byte, which no name has: --null takes a list whose names end with one")]
+    ZeroByte(&'a str),
     #[error("{0}")]
     Refused(Refusal),
     #[error("{0}")]
@@ -73,6 +80,9 @@ pub enum CommandFault<'a> {
     BundleOut(BundleOutFault),
     #[error("'{0}' is not written: {1}")]
     OtherVolume(&'a str, WrongVolume),
+    /// There is a list of bad blocks, which is that of one image, and an argument names a directory.
+    #[error("--bad lists the blocks of one image, and FILE is a directory")]
+    OneImage,
     #[error("a thread cannot be made")]
     Thread,
     #[error("a client ran out of tries")]
@@ -122,9 +132,13 @@ impl Drop for CommandFault<'_> {
             | CommandFault::LongBoot(_)
             | CommandFault::BadLine(_, _, _)
             | CommandFault::LongList(_)
+            | CommandFault::LongNames(_)
+            | CommandFault::NoNames(_)
+            | CommandFault::ZeroByte(_)
             | CommandFault::Refused(_)
             | CommandFault::Bitmap(_)
             | CommandFault::OtherVolume(_, _)
+            | CommandFault::OneImage
             | CommandFault::Thread
             | CommandFault::Tries
             | CommandFault::Script
@@ -140,7 +154,8 @@ impl Drop for CommandFault<'_> {
 impl<'a> CommandFault<'a> {
     /// The fault of a file that was not read to its end.
     pub(crate) fn of_input<R: Files>(rt: &R, fault: InputFault, file: &'a str) -> CommandFault<'a>
-        ensures { IsNoImage result }
+        ensures no_image { IsNoImage result }
+        ensures unread { IsUnreadFile file.now result }
     {
         match fault {
             InputFault::Read => CommandFault::Read(file, why_unreadable(rt, file)),
@@ -173,7 +188,7 @@ impl<'a> CommandFault<'a> {
         ensures { result ≡ status_of self.now }
     {
         match self {
-            CommandFault::Blocks(_) | CommandFault::Letter(_) => 1,
+            CommandFault::Blocks(_) | CommandFault::Letter(_) | CommandFault::OneImage => 1,
             CommandFault::Name(_)
             | CommandFault::LongBoot(_)
             | CommandFault::NoBlock(_, _, _)
@@ -213,6 +228,7 @@ impl From<ArchiveFault> for CommandFault<'_> {
         match fault {
             ArchiveFault::Refused => CommandFault::ImagesRefused,
             ArchiveFault::NotChecked => CommandFault::NotChecked,
+            ArchiveFault::OneImage => CommandFault::OneImage,
             ArchiveFault::Output => CommandFault::Output,
             ArchiveFault::Memory => CommandFault::Memory,
         }

@@ -6,6 +6,7 @@ use crate::blocks::tell_where;
 use crate::boot::{change_boot, save_boot, show_boot};
 use crate::bundle::{put_bundle, take_bundle};
 use crate::changing::change;
+use crate::checks::check_images;
 use crate::deleted::undelete;
 use crate::fault::CommandFault;
 use crate::map::tell_map;
@@ -15,7 +16,7 @@ use crate::rescue::take_rescue;
 use crate::screen::Screen;
 use crate::serving::serve;
 use crate::validate::validate_file;
-use adf_archive::{ReadImages, check_archive};
+use adf_archive::ReadImages;
 use adf_cli::ImageJob;
 use adf_host::PromptFiles;
 use adf_import::StandardInput;
@@ -58,10 +59,7 @@ where
         ImageJob::ShowBoot { image, json } => show_boot(rt, alloc, *image, *json, writer),
         ImageJob::List(job) => print_query(rt, alloc, job.image, Query::List(job), screen.styled, writer),
         ImageJob::Print { image, path } => print_query(rt, alloc, *image, Query::Bytes(*path), screen.styled, writer),
-        ImageJob::Check(job) => match check_archive(rt, alloc, job, screen.progress, writer, faults) {
-            Ok(()) => Ok(()),
-            Err(fault) => Err(CommandFault::from(fault)),
-        },
+        ImageJob::Check(job) => check_images(rt, alloc, job, screen.progress, writer, faults),
         ImageJob::Extract(job) => take_out(rt, alloc, job),
         ImageJob::ExtractBundle { image, to } => take_bundle(rt, alloc, *image, *to, faults),
         ImageJob::AddBundle { target, from } => put_bundle(rt, alloc, *target, *from, writer),

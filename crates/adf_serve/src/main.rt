@@ -20,12 +20,14 @@ mod screen;
 // Commands that print something of an image, or take something out of it.
 mod bad;
 mod blocks;
+mod checks;
 mod deleted;
 mod info;
 mod kind_line;
 mod look;
 mod map;
 mod moving;
+mod name_list;
 mod query;
 mod rescue;
 mod rescue_out;

@@ -3,7 +3,8 @@ pub use Rattle.adf_io.proofs.Outcomes.{at_any_err}
 pub use Rattle.adf_record.proofs.Tokens.{behind}
 pub use Rattle.adf_where.specs.Faulty.{AreFaultsAt, AreFound, IsFaultyBlock, block_line, fault_line, fault_word, place_object, place_words}
 pub use Rattle.adf_where.specs.Own.{IsWhereOf, own_from, own_text}
-pub use Rattle.adf_where.specs.Where.{AreNamed, AreTold, Told, array_of, entry_of, owner_text, path_text, place_text, seen, span_of, span_text, told_as, told_at, told_of, told_tokens, where_line, where_of}
+pub use Rattle.adf_archive.specs.Owned.{entry_of, owner_text}
+pub use Rattle.adf_where.specs.Where.{AreNamed, AreTold, Told, array_of, path_text, place_text, seen, span_of, span_text, told_as, told_at, told_of, told_tokens, where_line, where_of}
 pub use Rattle.adf_where.specs.declared.faulty.FaultyBlock.{FaultyBlock}
 pub use Rattle.ados_faults.specs.Listed.{StandsBefore, fault_of}
 pub use Rattle.ados_census.specs.Places.{AreAllPlaces}

@@ -6,7 +6,7 @@ use Rattle.json.specs.Token.{Token, begin_array, begin_object, boolean, end_arra
 use Rattle.json.specs.Print.{print}
 use Rattle.ados_model.specs.Tree.{Tree, data_size, size_of}
 use Rattle.ados_volume.specs.declared.owner.Owner.{Owner}
-use Rattle.ados_volume.specs.declared.owner.Owner.TheVariants.{Boot, Root, Page, Directory, File, Data, Extension, Lost, Free}
+use Rattle.ados_volume.specs.declared.owner.Owner.TheVariants.{Data}
 use Rattle.ados_volume.specs.Owners.{AreOwners}
 use Rattle.adf_text.specs.Letters.{letters}
 use Rattle.adf_text.specs.Plain.{plain}
@@ -14,6 +14,7 @@ use Rattle.adf_cli.specs.declared.block_word.BlockWord.{BlockWord}
 use Rattle.adf_cli.specs.Blocks.{named, track}
 use Rattle.adf_cli.specs.declared.floppy.TheConstants.{HEADS}
 use Rattle.adf_record.specs.Members.{number_token, string_token}
+use Rattle.adf_archive.specs.Owned.{entry_of, owner_text, owner_word, position_of, slash}
 use Rattle.adf_where.specs.declared.owned.OwnedBlock.{OwnedBlock}
 use Rattle.adf_where.specs.declared.short_path.TheConstants.{LONGEST_PATH}
 use Rattle.adf_where.specs.declared.owned.Span.{Span}
@@ -33,14 +34,6 @@ abbrev pub IsWhereFault : ℕ → List BlockWord → WhereFault → Type 0
 IsWhereFault blocks words (NoBlock word) =
     (n : ℕ) × (before : List ℕ) × (slice_get words n ≡ Some word) × (named blocks word ≡ None) × AreNamed blocks (take n words) before
 IsWhereFault blocks words fault = ⊤
-
--- the entry that a block with this owner belongs to, if it belongs to one
-abbrev pub entry_of : ℕ → Owner → Option ℕ
-entry_of block Directory = Some block
-entry_of block File = Some block
-entry_of block (Data file k) = Some file
-entry_of block (Extension file k) = Some file
-entry_of block owner = None
 
 -- a path in letters, if it is not too long
 abbrev pub short_path : List ℕ → Option (List ℕ)
@@ -104,23 +97,6 @@ place_text blocks block =
     decimal block ++ (codes "  cyl " ++ (decimal (cylinder_of blocks block) ++ (codes " head " ++ (decimal (head_of blocks block)
     ++ (codes " sector " ++ (decimal (sector_of blocks block) ++ codes "  "))))))
 
--- what the block is, up to the path of its entry
-abbrev pub owner_text : Owner → List ℕ
-owner_text Boot = codes "boot block"
-owner_text Root = codes "root"
-owner_text (Page i) = codes "bitmap block " ++ decimal i
-owner_text Directory = codes "header of "
-owner_text File = codes "header of "
-owner_text (Data file k) = codes "data " ++ (decimal k ++ codes " of ")
-owner_text (Extension file k) = codes "extension " ++ (decimal k ++ codes " of ")
-owner_text Lost = codes "lost"
-owner_text Free = codes "free"
-
--- the slash behind the path of a directory
-abbrev pub slash : Owner → List ℕ
-slash Directory = codes "/"
-slash owner = []
-
 -- an entry by its header block
 abbrev pub header_text : ℕ → List ℕ
 header_text entry = codes "the entry at block " ++ decimal entry
@@ -148,25 +124,6 @@ abbrev pub where_line : ℕ → Told → List ℕ
 where_line blocks told =
     place_text blocks told.block ++ owner_text told.owner ++ path_text told.block told.owner told.path ++ span_text told.span ++ codes "\n"
     ++ unread_line told.unread told.block
-
--- what the block is, as one word
-abbrev pub owner_word : Owner → List ℕ
-owner_word Boot = codes "boot"
-owner_word Root = codes "root"
-owner_word (Page i) = codes "bitmap"
-owner_word Directory = codes "directory"
-owner_word File = codes "file"
-owner_word (Data file k) = codes "data"
-owner_word (Extension file k) = codes "extension"
-owner_word Lost = codes "lost"
-owner_word Free = codes "free"
-
--- the position of the block among those of its kind, from 0
-abbrev pub position_of : Owner → Option ℕ
-position_of (Page i) = Some i
-position_of (Data file k) = Some k
-position_of (Extension file k) = Some k
-position_of owner = None
 
 -- the members for the place of a block
 abbrev pub place_tokens : ℕ → ℕ → List Token

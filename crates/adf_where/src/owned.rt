@@ -5,10 +5,12 @@ ghost use Rattle.adf_block.specs.Image.{block_count};
 ghost use Rattle.ados_model.specs.Stands.{Stands};
 ghost use Rattle.ados_model.specs.Tree.{Tree, data_size};
 ghost use Rattle.ados_volume.specs.Owners.{AreOwners, Owns};
-ghost use Rattle.adf_where.specs.Where.{entry_of, entry_path, seen, span_of, told_at};
+ghost use Rattle.adf_archive.specs.Owned.{entry_of};
+ghost use Rattle.adf_where.specs.Where.{entry_path, seen, span_of, told_at};
 
 use crate::short_path::short_path;
 use crate::unread::unread_of;
+use adf_archive::entry_of;
 use adf_block::Format;
 use adf_block::layout::{FFS_ROOM, OFS_ROOM};
 use ados_volume::{Owner, Volume};
@@ -82,17 +84,6 @@ fn entry_path(
         return Ok(None);
     };
     short_path(alloc, volume, key)
-}
-
-/// The entry that a block with this owner belongs to, if there is one.
-pub(crate) fn entry_of(block: u32, owner: Owner) -> Option<u32>
-    ensures { result ≡ entry_of block owner }
-{
-    match owner {
-        Owner::Directory | Owner::File => Some(block),
-        Owner::Data(file, _) | Owner::Extension(file, _) => Some(file),
-        Owner::Boot | Owner::Root | Owner::Page(_) | Owner::Lost | Owner::Free => None,
-    }
 }
 
 /// The bytes of its file that are in a block with this owner, if there are any.

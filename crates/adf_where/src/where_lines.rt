@@ -1,13 +1,13 @@
 //! The lines of blocks with their owners.
 ghost use Rattle.std.specs.Prelude.{◌≡◌, ◌++◌, IfOk, OnOk, option_map};
 ghost use Rattle.std.specs.String.{string_bytes};
-ghost use Rattle.adf_where.specs.Where.{owner_text, path_text, place_text, slash, span_text, unread_line};
+ghost use Rattle.adf_where.specs.Where.{path_text, place_text, span_text, unread_line};
 
 use crate::forms::Tell;
-use crate::owned::{OwnedBlock, Span, entry_of};
+use crate::owned::{OwnedBlock, Span};
 use crate::places::{cylinder_of, head_of, sector_of};
+use adf_archive::{entry_of, owner_text, slash};
 use adf_text::push_plain;
-use ados_volume::Owner;
 use std::alloc::{AllocError, Global};
 
 impl Tell for OwnedBlock {
@@ -58,22 +58,6 @@ pub(crate) fn place_text(alloc: Global, blocks: u32, block: u32) -> Result<Strin
     )
 }
 
-/// What a block is, up to the path of its entry.
-fn owner_text(alloc: Global, owner: Owner) -> Result<String, AllocError>
-    ensures { IfOk result (λ text. string_bytes text ≡ owner_text owner) }
-{
-    match owner {
-        Owner::Boot => String::from_str(alloc, "boot block"),
-        Owner::Root => String::from_str(alloc, "root"),
-        Owner::Page(i) => format!(in alloc; "bitmap block {i}"),
-        Owner::Directory | Owner::File => String::from_str(alloc, "header of "),
-        Owner::Data(_, k) => format!(in alloc; "data {k} of "),
-        Owner::Extension(_, k) => format!(in alloc; "extension {k} of "),
-        Owner::Lost => String::from_str(alloc, "lost"),
-        Owner::Free => String::from_str(alloc, "free"),
-    }
-}
-
 /// Appends the path of the entry that a block belongs to, with escapes for control characters, and a slash for a directory;
 /// or the header block of the entry, if its path is too long.
 fn push_path(alloc: Global, text: &mut Vec<u8>, owned: &OwnedBlock) -> Result<(), AllocError>
@@ -89,16 +73,6 @@ fn push_path(alloc: Global, text: &mut Vec<u8>, owned: &OwnedBlock) -> Result<()
             text.extend_from_slice(words.as_bytes())
         }
         None => Ok(()),
-    }
-}
-
-/// The slash behind the path of a directory.
-fn slash(owner: Owner) -> &'static str
-    ensures { result.now ≡ slash owner }
-{
-    match owner {
-        Owner::Directory => "/",
-        _ => "",
     }
 }
 

@@ -3,13 +3,13 @@ ghost use Rattle.std.specs.Prelude.{◌≡◌, ◌++◌, ◌∷◌, [], OnOk, co
 ghost use Rattle.std.specs.String.{string_bytes};
 ghost use Rattle.json.specs.Token.{key};
 ghost use Rattle.adf_record.specs.Members.{string_token};
-ghost use Rattle.adf_where.specs.Where.{owner_tokens, owner_word, place_tokens, position_of, seen, unread_tokens};
+ghost use Rattle.adf_where.specs.Where.{owner_tokens, place_tokens, seen, unread_tokens};
 
 use crate::forms::Put;
 use crate::owned::{OwnedBlock, Span};
 use crate::places::{cylinder_of, head_of, sector_of};
+use adf_archive::{owner_word, position_of};
 use adf_record::{put_flag, put_number, put_text};
-use ados_volume::Owner;
 use json::Writer;
 use std::alloc::AllocError;
 
@@ -74,33 +74,6 @@ fn put_path(writer: &mut Writer, path: &Option<String>) -> Result<(), AllocError
     match path {
         Some(path) => put_text(writer, "path", Some(path.as_str())),
         None => put_text(writer, "path", None),
-    }
-}
-
-/// What a block is, as one word.
-fn owner_word(owner: Owner) -> &'static str
-    ensures { result.now ≡ owner_word owner }
-{
-    match owner {
-        Owner::Boot => "boot",
-        Owner::Root => "root",
-        Owner::Page(_) => "bitmap",
-        Owner::Directory => "directory",
-        Owner::File => "file",
-        Owner::Data(_, _) => "data",
-        Owner::Extension(_, _) => "extension",
-        Owner::Lost => "lost",
-        Owner::Free => "free",
-    }
-}
-
-/// The position of a block among those of its kind, from 0.
-fn position_of(owner: Owner) -> Option<u64>
-    ensures { result ≡ position_of owner }
-{
-    match owner {
-        Owner::Page(k) | Owner::Data(_, k) | Owner::Extension(_, k) => Some(u64::from(k)),
-        _ => None,
     }
 }
 

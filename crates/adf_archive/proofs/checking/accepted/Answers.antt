@@ -5,10 +5,10 @@ use Rattle.ados_model.specs.Accepted.{Accepts}
 use Rattle.ados_model.specs.Parts.{name_in}
 use Rattle.ados_model.specs.declared.answer.FileInfo.{FileInfo}
 use Rattle.adf_archive.proofs.checking.accepted.Goals as goal
-use Rattle.adf_archive.proofs.checking.accepted.Goals.{then-detail+in_ok-counts_of, else-detail, then-detail-2+in_ok-suspects_of, else-detail-2}
+use Rattle.adf_archive.proofs.checking.accepted.Goals.{then-detail+in_ok-counts_of, else-detail, then-wants_suspects+in_ok-suspects_of, else-wants_suspects}
 
 pub returns : goal.returns
-returns c = λ old a. record {
+returns c = λ old a marks. record {
   is = record {
     checked = c.args.volume.now.image;
     accepts = subst (λ (b : Bool). Accepts old b c.args.volume.now.image) (sym c.was_validated.ensures) a;
@@ -25,14 +25,14 @@ returns c = λ old a. record {
           })
       | else-detail w ↦ rw w.contents-is tt
     ];
-    suspects = elim c.if-detail-2.branch [
-      | then-detail-2+in_ok-suspects_of w ↦ rw w.suspects-is w.in_ok-suspects_of.ensures
-      | else-detail-2 w ↦ rw w.suspects-is tt
+    wanted = elim c.if-wants_suspects.branch [
+      | then-wants_suspects+in_ok-suspects_of w ↦ rw w.suspects-is (sym w.if-wants_suspects.true ∙ c.wants_suspects.ensures)
+      | else-wants_suspects w ↦ rw w.suspects-is (sym w.if-wants_suspects.false ∙ c.wants_suspects.ensures)
+    ];
+    suspects = elim c.if-wants_suspects.branch [
+      | then-wants_suspects+in_ok-suspects_of w ↦ rw w.suspects-is (c.args.marks.now, marks, w.in_ok-suspects_of.ensures)
+      | else-wants_suspects w ↦ rw w.suspects-is tt
     ];
   };
   each = λ wanted. tt;
-  filler = elim c.if-detail-2.branch [
-    | then-detail-2+in_ok-suspects_of w ↦ rw w.suspects-is (sym w.if-detail-2.true)
-    | else-detail-2 w ↦ rw w.suspects-is (sym w.if-detail-2.false)
-  ];
 }

@@ -18,5 +18,4 @@ returns c =
         bitmap = c.has_only_bitmap_faults.ensures image c.requires.found;
       };
       each = λ all. subst (λ (shown : List VolumeFault). AreAllFaults image 1000 c.args.more shown) (sym is.faults) (c.requires.each all);
-      filler = tt;
     }

@@ -1,6 +1,8 @@
-use Rattle.std.proofs.Common.{◌≡◌, ◌≤◌, false, vec_len}
+use Rattle.std.proofs.Common.{◌≡◌, false, map, take}
+use Rattle.adf_archive.proofs.Common.{string_bytes}
+use Rattle.adf_archive.proofs.Searching.{texts}
 use Rattle.adf_archive.proofs.finding.image_files.Given as goal
 
--- without a directory, at most as many images were found as arguments were looked at
-abbrev pub invariant-loop-place : goal.invariant-loop-place
-invariant-loop-place g l = l.found.in_directory ≡ false → vec_len l.found.paths ≤ l.place
+-- without a directory, the paths are the arguments that were looked at
+abbrev pub invariant-loop-word : goal.invariant-loop-word
+invariant-loop-word g l = l.found.in_directory ≡ false → map string_bytes l.found.paths.items ≡ take l.word-index (texts l.words)

@@ -66,3 +66,7 @@ returns-in-Undelete g c =
 pub returns-in-SaveBoot : goal.returns-in-SaveBoot
 returns-in-SaveBoot g c =
     subst (λ (job : ImageJob). DoesJob job (g.W.Write.contents c.args.writer.now) (g.W.Write.contents c.save_boot.new.writer) c.save_boot.result) (sym c.in-SaveBoot.is) c.save_boot.ensures
+
+pub returns-in-Check : goal.returns-in-Check
+returns-in-Check g c =
+    subst (λ (job : ImageJob). DoesJob job (g.W.Write.contents c.args.writer.now) (g.W.Write.contents c.check_images.new.writer) c.check_images.result) (sym c.in-Check.is) c.check_images.ensures

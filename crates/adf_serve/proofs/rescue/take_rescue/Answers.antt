@@ -20,6 +20,3 @@ returns-in_err-all g c =
     let job = c.args.job.now in
     reports_no_image (IsRescueText job) IsSomeSize (λ (fault : CommandFault). IsHostEnd fault job.list) _ c.in_err-all.field-0.0 _ (λ bytes refusal size. (bytes, size)) (host_ends job.list) c.in_err-all.ensures
     c.from_residual-in_err-all.ensures.1
-
-pub returns : goal.returns
-returns g c = c.tell_rescue.ensures c.in_ok-image.holes.items c.in_ok-image.image c.in_ok-image.ensures.holes c.in_ok-rescue.ensures.told

@@ -23,11 +23,6 @@ returns-in-Ok-true g c = λ holes image are rescued.
     subst (λ (accepted : Bool). Writes (g.W.Write.contents c.args.writer.now) (g.W.Write.contents c.tell.new.writer) (IsRescueText c.args.job.now accepted)) c.in-Ok-true.field-0-test
     (told_whole c.args.job.now holes image c.args.rescue.now are rescued c.in-Ok-true.field-0 _ _ c.in-Ok-true.ensures.ok)
 
-pub returns-in-Ok-true-2 : goal.returns-in-Ok-true-2
-returns-in-Ok-true-2 g c = λ holes image are rescued.
-    subst (λ (accepted : Bool). Writes (g.W.Write.contents c.args.writer.now) (g.W.Write.contents c.tell.new.writer) (IsRescueText c.args.job.now accepted)) c.in-Ok-true.field-0-test
-    (told_whole c.args.job.now holes image c.args.rescue.now are rescued c.in-Ok-true.field-0 _ _ c.in-Ok-true.ensures.ok)
-
 pub returns-in-Ok-false : goal.returns-in-Ok-false
 returns-in-Ok-false g c = λ holes image are rescued.
     subst (λ (accepted : Bool). Writes (g.W.Write.contents c.args.writer.now) (g.W.Write.contents c.tell.new.writer) (IsRescueText c.args.job.now accepted)) c.in-Ok-false.field-0-test
