@@ -1,8 +1,9 @@
 -- A text again and again: its first bytes, and then each byte as that of the text before it.
 use Rattle.std.proofs.Common.{◌≡◌, ℕ, zero, suc, ◌+◌, ◌-◌, ◌*◌, ◌/◌, ◌%◌, ◌<◌, ◌≤◌, inl, inr, List, length, slice_index, sym, ap, ◌∙◌, subst, arith, add-mul, one-mul, div-add-mod'}
-use Rattle.adf_archive.proofs.Common.{cases_lt, RepeatsFrom}
+use Rattle.std.proofs.lemmas.Bool.{cases_lt}
 use Rattle.std.proofs.lemmas.Nat.{mod-mul-add, mod_below}
-use Rattle.adf_archive.specs.steps.Periods.{BeginsFrom, HasPeriod}
+use Rattle.ados_census.specs.Fillers.{RepeatsFrom}
+use Rattle.ados_census.specs.steps.Periods.{BeginsFrom, HasPeriod}
 
 -- a whole turn leaves the remainder
 turn : (k n : ℕ) → 0 < n → (k + n) % n ≡ k % n

@@ -1,5 +1,5 @@
 use Rattle.std.proofs.Common.{◌≡◌, ℕ, ◌+◌, ◌<◌, MatchBool, slice_index}
-use Rattle.adf_archive.proofs.filler.has_period.Given as goal
+use Rattle.ados_census.proofs.filler.has_period.Given as goal
 
 -- whether the bytes that were compared are the same
 abbrev pub invariant-loop-place : goal.invariant-loop-place

@@ -1,8 +1,9 @@
 use Rattle.std.proofs.Common.{ℕ, inl, inr, refl, subst, arith}
-use Rattle.adf_archive.proofs.Common.{RepeatsFrom, cases_lt}
-use Rattle.adf_archive.proofs.Repeating.{begins, comes_again, repeats}
-use Rattle.adf_archive.proofs.filler.repeats.Goals as goal
-use Rattle.adf_archive.proofs.filler.repeats.Goals.{else-begins_from-via-then-begins_from+else-has_period, else-begins_from-via-else-begins_from}
+use Rattle.std.proofs.lemmas.Bool.{cases_lt}
+use Rattle.ados_census.specs.Fillers.{RepeatsFrom}
+use Rattle.ados_census.proofs.Repeating.{begins, comes_again, repeats}
+use Rattle.ados_census.proofs.filler.repeats.Goals as goal
+use Rattle.ados_census.proofs.filler.repeats.Goals.{else-begins_from-via-then-begins_from+else-has_period, else-begins_from-via-else-begins_from}
 
 pub returns-then-has_period : goal.returns-then-has_period
 returns-then-has_period c = (

@@ -1,7 +1,11 @@
 //! What programs write where they have no bytes of the disk.
 ghost use Rattle.std.specs.Prelude.{◌≡◌, ◌<◌, ◌↔◌, IsTrue, MatchBool, length};
-ghost use Rattle.adf_archive.specs.Fillers.{IsFiller, Repeats, filler_text};
-ghost use Rattle.adf_archive.specs.steps.Periods.{BeginsFrom, HasPeriod};
+ghost use Rattle.adf_block.specs.Image.{block_count};
+ghost use Rattle.ados_census.specs.Fillers.{HoldsFiller, IsFiller, Repeats, data_bytes, filler_text};
+ghost use Rattle.ados_census.specs.steps.Periods.{BeginsFrom, HasPeriod};
+
+use adf_block::layout::OFS_DATA_BYTE;
+use adf_block::{Format, Image};
 
 /// A filler, by what writes it. docs/COMMANDS.md has the same list.
 #[derive(Clone, Copy)]
@@ -29,6 +33,26 @@ pub fn is_filler(bytes: &[u8]) -> bool
     ensures { IsTrue result ↔ IsFiller bytes.now }
 {
     repeats(Filler::Greaseweazle.text(), bytes) || repeats(Filler::PcFormat.text(), bytes)
+}
+
+/// Whether the bytes for a file in a block are a known filler from end to end.
+pub fn holds_filler(image: &Image, block: u32) -> bool
+    requires { block < block_count image.now }
+    ensures { IsTrue result ↔ HoldsFiller image.now block }
+{
+    is_filler(data_bytes(image, block))
+}
+
+/// The bytes for a file in a block, as many as fit.
+fn data_bytes(image: &Image, block: u32) -> &[u8]
+    requires { block < block_count image.now }
+    ensures { result.now ≡ data_bytes image.now block }
+{
+    let bytes = image.block(block);
+    match image.format() {
+        Format::Ofs => &bytes[OFS_DATA_BYTE as usize..],
+        Format::Ffs => bytes,
+    }
 }
 
 /// Whether these bytes are a text, again and again, from some byte of it on.

@@ -1,8 +1,9 @@
 use Rattle.std.proofs.Common.{ap, sym, ◌∙◌}
-use Rattle.adf_archive.proofs.Common.{bytes_at, data_size, data_start}
+use Rattle.adf_block.specs.Image.{bytes_at}
+use Rattle.ados_model.specs.Tree.{data_size, data_start}
 use Rattle.adf_block.specs.declared.layout.Format.{Format}
-use Rattle.adf_archive.proofs.Suspecting.{behind_header}
-use Rattle.adf_archive.proofs.suspects.data_bytes.Goals as goal
+use Rattle.ados_census.proofs.DataBytes.{behind_header}
+use Rattle.ados_census.proofs.filler.data_bytes.Goals as goal
 
 pub returns-in-Ofs : goal.returns-in-Ofs
 returns-in-Ofs c =

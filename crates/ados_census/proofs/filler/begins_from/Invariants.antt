@@ -1,5 +1,5 @@
 use Rattle.std.proofs.Common.{◌≡◌, ℕ, ◌+◌, ◌<◌, ◌%◌, length, slice_index}
-use Rattle.adf_archive.proofs.filler.begins_from.Given as goal
+use Rattle.ados_census.proofs.filler.begins_from.Given as goal
 
 -- the bytes before this one are those of the text
 abbrev pub invariant-loop-place : goal.invariant-loop-place

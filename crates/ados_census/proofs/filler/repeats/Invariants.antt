@@ -1,6 +1,6 @@
 use Rattle.std.proofs.Common.{ℕ, ◌<◌}
-use Rattle.adf_archive.proofs.Common.{RepeatsFrom}
-use Rattle.adf_archive.proofs.filler.repeats.Given as goal
+use Rattle.ados_census.specs.Fillers.{RepeatsFrom}
+use Rattle.ados_census.proofs.filler.repeats.Given as goal
 
 -- the bytes are the text from no byte before this one on
 abbrev pub invariant-loop-start : goal.invariant-loop-start
