@@ -1,5 +1,5 @@
 -- How `extract --damaged` ends.
-use Rattle.std.specs.Prelude.{◌≡◌, ℕ, Bool, true, false, List, [], Option, None, Result, ⊤}
+use Rattle.std.specs.Prelude.{◌≡◌, ℕ, Bool, true, false, List, [], Option, None, Result, is_some, ⊤}
 use Rattle.adf_block.specs.Image.{block_count}
 use Rattle.adf_rescue.specs.Rescue.{IsReport}
 use Rattle.adf_cli.specs.declared.query.SalvageJob.{SalvageJob}
@@ -32,7 +32,7 @@ AreHoles job image holes = (missing : List Bool) × AreLacking job missing × Ar
 
 -- the report on a rescue of an image that was accepted or not, as lines or as a JSON object
 abbrev pub IsRescueText : SalvageJob → Bool → List ℕ → Type 0
-IsRescueText job accepted text = (holes : List Bool) × (image : List ℕ) × AreHoles job image holes × IsReport job.json holes image accepted text
+IsRescueText job accepted text = (holes : List Bool) × (image : List ℕ) × AreHoles job image holes × IsReport job.json holes (is_some job.bad) image accepted text
 
 -- an image is refused only for a wrong size
 abbrev pub IsSomeSize : Refusal → Type 0
