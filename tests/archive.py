@@ -1,6 +1,6 @@
 #!/usr/bin/env python3
 """Tests the built program on whole archives: checks of many images, lists of names, all faults of an image, JSON, endless input, and the
-salvage of damaged images.
+salvage of damaged images, also where a block holds a filler.
 
     tests/archive.py [PROGRAM]
 
@@ -1220,6 +1220,51 @@ class Salvage:
         self.report.same(f"{self.title}: notes beside files", sorted(told.written), sorted([*self.files, *notes]))
 
 
+def salvaged_fillers(room: Room) -> None:
+    """A file with a data block that holds a filler is whole on an accepted disk. Where the disk is refused, or with a list of unread blocks,
+    it is doubtful, with that reason, and keeps its bytes."""
+    for kind in KINDS:
+        said, size = f"filler {kind[0] if kind else '--ofs'}, salvaged", BLOCK if kind else 488
+        files = filled(room, "filler.adf", *kind)
+        clean = Volume(room.content("filler.adf"))
+        header = clean.header("long")
+        block = [*clean.pointers(header), *clean.pointers(clean.long(header, 126))][73]
+        free = next(it for it in range(2, clean.blocks) if not any(clean.data[BLOCK * it : BLOCK * (it + 1)]))
+        room.write("free.txt", f"{free}\n".encode())
+        room.write("none.txt", b"# nothing\n")
+        accepted = Volume(bytes(clean.data))
+        cover(accepted, block, FORMATTED)
+        nearly = Volume(bytes(accepted.data))
+        nearly.data[BLOCK * block + BLOCK - 1] ^= 1
+        for it in [] if kind else [block]:
+            nearly.settle(it)
+        refused, other = Volume(bytes(accepted.data)), Volume(bytes(nearly.data))
+        for it in (refused, other):
+            it.put(ROOT, 5, it.long(ROOT, 5) ^ 1)
+        f6 = FORMATTED * size
+        held, almost = ({**files, "Docs/long": files["Docs/long"][: 73 * size] + it + files["Docs/long"][74 * size :]} for it in (f6, f6[:-1] + b"\xf7"))
+        whole = {it: "whole" for it in files}
+        doubtful = {**whole, "Docs/long": "doubtful"}
+        rows: List[Tuple[str, Volume, List[str], Taken]] = [
+            ("of an accepted disk", accepted, [], Taken(0, whole, held)),
+            ("of an accepted disk with its size", accepted, ["--blocks", "1760"], Taken(0, whole, held)),
+            ("of a refused disk", refused, [], Taken(3, doubtful, held)),
+            ("with a list of free blocks", accepted, ["--bad", "free.txt"], Taken(3, doubtful, held)),
+            ("with a list of no blocks", accepted, ["--bad", "none.txt"], Taken(3, doubtful, held)),
+            ("of a refused disk with a list", refused, ["--bad", "free.txt"], Taken(3, doubtful, held)),
+            ("of a disk without one, with a list", clean, ["--bad", "free.txt"], Taken(0, whole, files)),
+            ("nearly one, with a list", nearly, ["--bad", "free.txt"], Taken(0, whole, almost)),
+            ("nearly one, of a refused disk", other, [], Taken(3, whole, almost)),
+        ]
+        for name, image, words, wanted in rows:
+            room.report.same(f"{said}: {name}", taken(room, image, *words), wanted)
+            texts = room.run("extract", "--damaged", "--list", *words, "damaged.adf").texts
+            reason = f"block {block} holds a filler" if "doubtful" in wanted.lines.values() else None
+            room.report.same(f"{said}: {name}, why", doubts_told(texts), [f"adf_serve: 'Docs/long' is doubtful: {reason}".encode()] if reason else [])
+            entries = json.loads(room.run("extract", "--damaged", "--list", "--json", *words, "damaged.adf").output)["entries"]
+            room.report.same(f"{said}: {name}, as JSON", {it["path"]: it["reason"] for it in entries if it["reason"]}, {"Docs/long": reason} if reason else {})
+
+
 def salvage(room: Room) -> None:
     for kind in KINDS:
         tried = Salvage(room, kind)
@@ -1632,7 +1677,7 @@ def deleted_entries(room: Room) -> None:
 
 def main(words: List[str]) -> int:
     random.seed(3)
-    parts = (named_images, directories, strange_names, listed, other_files, next_commands, filler_blocks, long_paths_of_fillers, largest_filled, drawn_fillers, parallel, accepted_objects, refused_objects, shown_values, texts_told, bounded, many_faults, tangled_disks, other_kinds, model, longs_told, salvage, rows, deleted_entries, damages)
+    parts = (named_images, directories, strange_names, listed, other_files, next_commands, filler_blocks, long_paths_of_fillers, largest_filled, drawn_fillers, parallel, accepted_objects, refused_objects, shown_values, texts_told, bounded, many_faults, tangled_disks, other_kinds, model, longs_told, salvage, salvaged_fillers, rows, deleted_entries, damages)
     return try_all(words, Room, *parts)
 
 

@@ -58,10 +58,13 @@ REASONS = {
     "comment": "the comment in its header is too long",
     "hole": "block {} could not be read",
     "shared": "block {} is in '{}' too",
+    "filler": "block {} holds a filler",
     "field": "block {} has a wrong field",
     "gone": "its header is gone, and it is made of the data blocks that name it",
     "cut": "incomplete files may have at most four times the bytes of the image in all",
 }
+# The texts of known fillers: of Greaseweazle's host tools, and of a PC.
+FILLERS = (b"-=[BAD SECTOR]=-", b"\xf6")
 # What stands on standard error before the numbers of the blocks that are used and belong to nothing.
 HEADING = b"adf_serve: blocks in use that belong to no reported entry:\n"
 
@@ -149,6 +152,11 @@ def emptied(data: bytes, holes: FrozenSet[int]) -> bytes:
     return b"".join(b"\0\0\0\1" + bytes(BLOCK - 4) if it in holes else data[BLOCK * it : BLOCK * (it + 1)] for it in range(-(-len(data) // BLOCK)))
 
 
+def is_filler(data: bytes) -> bool:
+    """Whether these bytes are the text of a filler from end to end, from some byte of it on."""
+    return any(data in text * (2 + len(data) // len(text)) for text in FILLERS)
+
+
 class Headers(Image):
     """An image, and which of its blocks are headers."""
 
@@ -168,6 +176,10 @@ class Headers(Image):
 
     def is_directory(self, block: int) -> bool:
         return self.long(block, 127) == DIRECTORY
+
+    def holds_filler(self, block: int) -> bool:
+        """Whether the bytes for a file in a data block are a filler: behind 24 bytes in OFS, and all in FFS."""
+        return is_filler(bytes(self.data[BLOCK * (block + 1) - self.room : BLOCK * (block + 1)]))
 
     def is_any_data(self, block: int) -> bool:
         """An OFS data block of some file."""
@@ -278,12 +290,18 @@ class Owners(Model):
 
 
 class Account(Disk):
-    """What has to be told of an image with these holes. It is accepted only where the root leads to none of them."""
+    """What has to be told of an image with these holes. It is accepted only where the root leads to none of them. With a list of unread
+    blocks it is accepted only where no file has a data block that holds a filler either; there, and in an image that is refused, a
+    filler may stand in place of what a program could not read, so that the file is doubtful."""
 
-    def __init__(self, data: bytes, rules: Rules, holes: FrozenSet[int] = frozenset()) -> None:
+    def __init__(self, data: bytes, rules: Rules, holes: FrozenSet[int] = frozenset(), listed: bool = False) -> None:
         data = emptied(data, holes)
         model = Model(data)
         self.is_accepted = not model.all_faults() and not holes & {block for block, _ in model.reached}
+        if self.is_accepted and listed:
+            disk = Headers(data)
+            self.is_accepted = not any(role.what == "data" and disk.holds_filler(block) for block, role in model.reached)
+        self.fillers = listed or not self.is_accepted
         super().__init__(data if self.is_accepted else with_kind(data))
         self.rules, self.holes = rules, holes
         shown = Model(bytes(self.data))
@@ -384,12 +402,15 @@ class Account(Disk):
         return self.long(file, 4) == (data[0] if data else 0)
 
     def is_whole(self, file: int) -> bool:
-        """Only this file names its blocks, and none is a hole. A reached one keeps them against those to which nothing leads."""
+        """Only this file names its blocks, none is a hole, and where fillers count no data block holds one. A reached one keeps its blocks
+        against those to which nothing leads."""
         if file not in self.intact:
             return False
         users = [self.users[it] for part in self.intact[file] for it in part]
         if file in self.reached_entries:
             users = [it & self.reached_entries for it in users]
+        if self.fillers and any(self.holds_filler(it) for it in self.intact[file].data):
+            return False
         return all(it == {file} for it in users) and not any(it in self.holes for part in self.intact[file] for it in part)
 
     # ---- files that are not
@@ -635,12 +656,15 @@ class Account(Disk):
         return REASONS["comment"]
 
     def block_reason(self, file: int) -> str:
-        """Why a file with a sound header is doubtful: what is wrong with its pointer blocks, then with its data blocks, and then the first of
-        all of its blocks that another file has too."""
+        """Why a file with a sound header is doubtful: what is wrong with its pointer blocks, then with its data blocks, then the first data
+        block that holds a filler, and then the first of all of its blocks that another file has too."""
         heads, wrong = self.chain(file)
         if wrong is None and self.ofs:
             wrong = self.data_reason(file)
-        elif wrong is None:
+        if wrong is None and self.fillers:
+            filled = [block for _, block in sorted(self.there[file].items()) if self.holds_filler(block)]
+            wrong = REASONS["filler"].format(filled[0]) if filled else None
+        if wrong is None and not self.ofs:
             wrong = self.shared_reason(file, [it for head in heads for it in [head, *(self.long(head, 77 - at) for at in range(self.long(head, 2)))]])
         return wrong or REASONS["field"].format(file)
 

@@ -16,7 +16,8 @@ They are the same in each run.
 
 Files that end early follow, with `--blocks`: what is behind their ends is missing in each file that it belongs to.
 
-Then come images that tests/fuzz.py damages at random, and accepted ones with headers that nothing names, 100 or N.
+Then come images that tests/fuzz.py damages at random, and accepted ones with headers that nothing names, 100 or N. Half of them have
+data blocks that hold a filler.
 tests/disk_model.py says what `extract --damaged` has to print and to write, also where some blocks could not be read (`--bad`), what
 `map` and `where` print of those that are accepted, and `where` of those that are refused. `--page` compares with the pages alone, and
 so shows where the program does more or less. `--keep` keeps the images that show a fault.
@@ -37,7 +38,7 @@ from typing import Callable, Dict, Iterator, List, Mapping, NamedTuple, Optional
 sys.dont_write_bytecode = True
 
 from all_faults_model import Model, lines_of
-from disk_model import NO_SUMS, NOW, PAGE, Account, Bitmap, Disk, Headers, Owners, Rules, rest_of, rest_text, rest_told, runs_of, texts_told
+from disk_model import FILLERS, NO_SUMS, NOW, PAGE, Account, Bitmap, Disk, Headers, Owners, Rules, rest_of, rest_text, rest_told, runs_of, texts_told
 from drawn_volume import Drawer
 from fuzz import FEWEST, LARGEST, PER_BASE, Base, Damaged, a_chain, a_name, a_parent, a_pointer, a_size, base_of, damaged, told_of
 from harness import BLOCK, FILE, Image, Ran, Report, Room, host_name, in_memory, processors, program_of
@@ -545,7 +546,7 @@ class Compared:
         words = [chance.choice([f"{it}", f" {it}\t# {it + 1}", f"c{it // track // 2}.h{it // track % 2}.s{it % track}\r"]) for it in holes]
         self.room.write("bad.txt", "\n".join(["# what could not be read", "", *words]).encode() + chance.choice([b"", b"\n"]))
         self.words = ["--bad", "bad.txt", "image.adf"]
-        self.account(Account(self.data, self.rules, holes))
+        self.account(Account(self.data, self.rules, holes, True))
 
     def account(self, account: Account) -> None:
         wanted, runs = account.lines(), runs_of(account.rest) if len(account.rest) % 2 else []
@@ -680,6 +681,22 @@ def with_old_headers(base: Base, seed: str, number: int) -> bytes:
     return bytes(image.data)
 
 
+def with_fillers(data: bytes, chance: random.Random) -> bytes:
+    """The image, of which some data blocks hold a filler, from some byte of its text on, and others one but for a byte. A right checksum
+    stays right."""
+    image = Image(data)
+    blocks = sorted({block for block, role in Model(data).reached if role.what == "data"})
+    for block in chance.sample(blocks, min(len(blocks), chance.choice([1, 2, 8]))):
+        text, was_right = chance.choice(FILLERS), image.sum(block) == 0
+        first, start = chance.randrange(len(text)), BLOCK * (block + 1) - image.room
+        image.data[start : BLOCK * (block + 1)] = (text * (2 + BLOCK // len(text)))[first : first + image.room]
+        if chance.random() < 0.2:
+            image.data[chance.randrange(start, BLOCK * (block + 1))] ^= 1
+        if image.ofs and was_right:
+            image.settle(block)
+    return bytes(image.data)
+
+
 class Cut(NamedTuple):
     """A floppy of which only the first bytes are there, so many."""
 
@@ -720,6 +737,8 @@ def fault_of_base(program: Path, seed: str, rules: Rules, kept: Optional[Path], 
         base = base_of(room, seed, number)
         for at in range(number * PER_BASE, (number + 1) * PER_BASE):
             data = {3: with_old_headers, 4: scattered}.get(at % 5, damaged)(base, seed, at)
+            if at % 2 and len(data) % BLOCK == 0 and FEWEST <= len(data) // BLOCK <= LARGEST:
+                data = with_fillers(data, random.Random(f"{seed} fillers {at}"))
             try:
                 Compared(room, data, rules).all()
                 Compared(room, data, rules).bad(random.Random(f"{seed} bad {at}"))
