@@ -62,7 +62,7 @@ PARTS = [
 # A pattern of texts, and what to do.
 ADVICE: List[Tuple[str, str]] = [
     (r"in the new image|has its name there|its directory is not there|there is no room|not as it was to be|read back", "`extract --damaged --to` writes it to the host"),
-    (r"is \{word\}: |^its header |^block \{block\} (has a wrong|could not be read|is in)|comment in its header", "Compare it with another copy; the files that are `whole` are as they were"),
+    (r"is \{word\}: |^its header |^block \{block\} (has a wrong|could not be read|is in|holds a filler)|comment in its header", "Compare it with another copy; the files that are `whole` are as they were"),
     (r"(is|are) missing \(data|\{missing\}$", "Look for another copy: zeros stand for these bytes"),
     (r"most of a list of names", "Check the files in several lists, or name their directory"),
     (r"^'\{0?\}' names no file", "Look what made the list, as a `find` that found nothing"),
