@@ -1,5 +1,4 @@
-use Rattle.ados_salvage.proofs.KnownCommon.{ℕ, ◌<◌, List, All, sym, subst, ◌∙◌, block_count}
-use Rattle.ados_census.specs.Fillers.{HoldsFiller}
+use Rattle.ados_salvage.proofs.KnownCommon.{ℕ, ◌<◌, All, sym, subst, ◌∙◌, block_count}
 use Rattle.ados_salvage.proofs.FileBlocks.{data_within, intact_known}
 use Rattle.ados_salvage.proofs.known.whole.has_no_filler.Goals as goal
 
