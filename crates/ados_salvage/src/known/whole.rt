@@ -89,5 +89,10 @@ fn hold_no_filler(image: &Image, blocks: &[u32]) -> bool
     requires { All (λ block. block < block_count image.now) blocks.now }
     ensures { MatchBool result (All (λ block. ¬ HoldsFiller image.now block) blocks.now) (¬ All (λ block. ¬ HoldsFiller image.now block) blocks.now) }
 {
-    blocks.iter().all(|block| !holds_filler(image, *block))
+    for block in blocks {
+        if holds_filler(image, *block) {
+            return false;
+        }
+    }
+    true
 }

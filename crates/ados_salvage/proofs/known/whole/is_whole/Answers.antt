@@ -7,10 +7,10 @@ use Rattle.ados_salvage.proofs.known.whole.is_whole.Goals as goal
 pub returns-then-not-has : goal.returns-then-not-has
 returns-then-not-has c = λ saved. (rw c.if-not-has.true at c.in_ok-has.ensures) saved.has
 
-pub returns-then-not-fillers : goal.returns-then-not-fillers
-returns-then-not-fillers c =
+pub returns-then-not-known : goal.returns-then-not-known
+returns-then-not-known c =
     let known = c.args.known.now in
-    saved_uncounted known.left_out known.holes.items known.image c.args.file known.fillers c.if-not-fillers.true (rw c.if-not-has.false at c.in_ok-has.ensures)
+    saved_uncounted known.left_out known.holes.items known.image c.args.file known.fillers c.if-not-known.true (rw c.if-not-has.false at c.in_ok-has.ensures)
 
 pub has_no_filler-requires : goal.has_no_filler-requires
 has_no_filler-requires c =
@@ -22,4 +22,4 @@ returns c =
     let known = c.args.known.now in
     IfOk-weaker c.has_no_filler.result (λ (none : Bool). MatchBool none (HasNoFiller known.image c.args.file) (¬ HasNoFiller known.image c.args.file))
     (λ (whole : Bool). MatchBool whole (IsSavedWhole known.left_out known.holes.items known.fillers known.image c.args.file) (¬ IsSavedWhole known.left_out known.holes.items known.fillers known.image c.args.file))
-    (λ whole none. saved_counted known.left_out known.holes.items known.image c.args.file known.fillers c.if-not-fillers.false (rw c.if-not-has.false at c.in_ok-has.ensures) whole none) c.has_no_filler.ensures
+    (λ whole none. saved_counted known.left_out known.holes.items known.image c.args.file known.fillers c.if-not-known.false (rw c.if-not-has.false at c.in_ok-has.ensures) whole none) c.has_no_filler.ensures
