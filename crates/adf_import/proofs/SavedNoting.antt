@@ -1,13 +1,14 @@
 -- An object with everything of an entry.
-use Rattle.std.proofs.Common.{◌≡◌, ℕ, List, Option, Some, Result, Ok, Err, IfOk, slice_get, refl, sym, ap, ◌∙◌, subst}
+use Rattle.std.proofs.Common.{◌≡◌, ℕ, Option, Some, Result, Ok, Err, IfOk, sym, ap, ◌∙◌, subst}
 use Rattle.std.proofs.lemmas.Option.{get_or_from_slice_get}
-use Rattle.adf_import.proofs.Common.{Content, FileInfo, Node, Tree, content_at, file_info}
+use Rattle.adf_import.proofs.Common.{FileInfo, Node, Tree, content_at, file_info}
 use Rattle.ados_salvage.specs.Salvaged.{Saved}
 use Rattle.ados_salvage.specs.Saved.{IsAt}
 use Rattle.ados_salvage.specs.declared.salvaged.Salvaged.{Salvaged}
 use Rattle.adf_import.specs.SavedNames.{comment_for, name_for}
 use Rattle.adf_import.specs.SavedVolume.{HasNoteOf, HoldsSaved}
-use Rattle.adf_import.specs.steps.Spots.{IsNoteOf, IsSavedAt}
+use Rattle.adf_import.specs.SavedLeft.{IsSavedAt}
+use Rattle.adf_import.specs.steps.Spots.{IsNoteOf}
 
 -- what is told of an object is what its node has
 pub note_there : (t : Tree) (key : ℕ) (entry : Salvaged) (told : FileInfo) (node : Node) → t.nodes key ≡ Some node → told ≡ file_info t.format key node
