@@ -23,8 +23,6 @@ from drawn_volume import Drawer, Entry, Reader, Told, drawn, read
 from harness import BLOCK, DIRECTORY, FILE, MOMENT, Failed, Image, Ran, Room, host_name, slot_of, try_all
 
 ROUNDS = int(os.environ.get("ROUNDS", "60"))
-HEADER_DOUBT = b"doubtful: its header has a wrong checksum or too long a comment"
-BLOCK_DOUBT = b"doubtful: a block has a wrong checksum or field, or is in another file too"
 # The bits and the date of a note, before its comment.
 NOTE = re.compile(rb"\S+ (?:raw \d+ \d+ \d+|\S+ \S+) ")
 LEFT_OUT = re.compile(r"(?m)^adf_serve: '(.*)' is not in the new image: (.*)$")
@@ -87,6 +85,11 @@ def break_sum(path: bytes) -> Callable[[Image], None]:
     return change
 
 
+def wrong_sum(room: Room, path: bytes) -> bytes:
+    """The comment of an entry whose header has a wrong checksum."""
+    return b"doubtful: block %d has a wrong checksum" % key_of(Image(room.content("bad.adf")), path)
+
+
 # ---- one rule each
 
 
@@ -138,7 +141,7 @@ def not_whole(room: Room) -> None:
     old = by_path(read(room.content("old.adf")))
     room.report.same("paths", sorted(found), sorted([b"Docs", b"Docs/old", b"Docs/old/note", b"Damaged", b"Damaged/letter", b"Damaged/Docs", b"Damaged/Docs/list"]))
     room.report.same("what is whole", found[b"Docs/old/note"], old[b"Docs/old/note"])
-    room.report.same("a doubtful file", found[b"Damaged/letter"]._replace(path=b"letter"), old[b"letter"]._replace(comment=HEADER_DOUBT))
+    room.report.same("a doubtful file", found[b"Damaged/letter"]._replace(path=b"letter"), old[b"letter"]._replace(comment=wrong_sum(room, b"letter")))
     listed = old[b"Docs/list"]
     assert listed.data
     holed = listed.data[:512] + bytes(512) + listed.data[1_024:]
@@ -149,13 +152,30 @@ def not_whole(room: Room) -> None:
 
 def long_comments(room: Room) -> None:
     """The old comment stands behind the reason if both have at most 79 bytes."""
-    for length in (0, 1, 14, 15, 79):
+    why = wrong_sum(room, b"letter")
+    most = 79 - len(why + b"; ")
+    for length in (0, 1, most, most + 1, 79):
         room.write("work.adf", room.content("old.adf"))
         room.done("comment", "work.adf", "letter", "c" * length)
         changed(room, break_sum(b"letter"), "work.adf")
         saved(room)
-        behind = b"; " + b"c" * length if 0 < length <= 14 else b""
-        room.report.same(f"a comment of {length} bytes", by_path(read(room.content("new.adf")))[b"Damaged/letter"].comment, HEADER_DOUBT + behind)
+        behind = b"; " + b"c" * length if 0 < length <= most else b""
+        room.report.same(f"a comment of {length} bytes", by_path(read(room.content("new.adf")))[b"Damaged/letter"].comment, why + behind)
+
+
+def shared_block(room: Room) -> None:
+    """The comment of a file with a block of another one says which block that is, and no path."""
+
+    def share(image: Image) -> None:
+        listed, block = key_of(image, b"Docs/list"), image.long(key_of(image, b"letter"), 77)
+        image.put(listed, 77, block)
+        image.settle(listed)
+
+    changed(room, share)
+    saved(room)
+    block = Image(room.content("bad.adf")).long(key_of(Image(room.content("old.adf")), b"letter"), 77)
+    comments = {it.comment for path, it in by_path(read(room.content("new.adf"))).items() if path.startswith(b"Damaged/")}
+    room.report.expect("the block is named", b"doubtful: block %d is in another file too" % block in comments, comments)
 
 
 def doubtful_directory(room: Room) -> None:
@@ -164,7 +184,7 @@ def doubtful_directory(room: Room) -> None:
     room.report.expect("its line", b"doubtful Docs/\n" in ran.output, ran.output)
     found = by_path(read(room.content("new.adf")))
     room.report.same("paths", sorted(found), [b"Damaged", b"Damaged/Docs", b"Docs", b"Docs/list", b"Docs/old", b"Docs/old/note", b"letter"])
-    room.report.same("its comment", (found[b"Damaged/Docs"].comment, found[b"Docs"].comment), (HEADER_DOUBT, HEADER_DOUBT))
+    room.report.same("its comment", {found[b"Damaged/Docs"].comment, found[b"Docs"].comment}, {wrong_sum(room, b"Docs")})
 
 
 def found_entries(room: Room) -> None:

@@ -5,12 +5,12 @@ use Rattle.std.proofs.lemmas.List.Elements.{All-get_or, All-nil, All-push, All-w
 use Rattle.std.proofs.lemmas.List.Quantifiers.{all_pairs_push}
 use Rattle.std.proofs.lemmas.Option.{slice_get_cases, slice_get_read}
 use Rattle.adf_import.proofs.Common.{Stands, Tree, is_file}
-use Rattle.ados_salvage.specs.Salvaged.{Saved}
 use Rattle.ados_salvage.specs.declared.salvaged.Salvaged.{Salvaged}
 use Rattle.ados_salvage.specs.declared.salvaged.State.{State}
 use Rattle.ados_salvage.specs.declared.salvaged.State.TheVariants as states
 use Rattle.adf_import.specs.SavedLeft.{AreLeftOut, HasReason, IsLeftOut, IsTaken, is_directory}
 use Rattle.adf_import.specs.SavedVolume.{AreSaved, IsLostState, IsSavedIn, places_of, spot_of}
+use Rattle.adf_import.specs.declared.given.Given.{Given}
 use Rattle.adf_import.specs.declared.saved_left.LeftOut.{LeftOut}
 use Rattle.adf_import.specs.declared.saved_left.LeftOut.TheVariants.{Joined, Taken}
 use Rattle.adf_import.specs.declared.saved_look.Looked.{Looked}
@@ -52,10 +52,10 @@ not_lost (states.Broken missing cut length) other lost = lost
 pub lost_state : (state : State) → state ≡ states.Lost → IsLostState state
 lost_state state is = subst IsLostState (sym is) tt
 
-module _ (image : List ℕ) (saved : Saved) (own : OwnNames) (t : Tree) (s : Stands image t) where
+module _ (image : List ℕ) (given : Given) (own : OwnNames) (t : Tree) (s : Stands image t) where
   -- an entry of which everything was found is in the volume
-  pub saved_in : (place key : ℕ) (entry : Salvaged) → slice_get saved.entries place ≡ Some entry → IsObjectAt image saved own (spot_of place entry) key true
-      → IsSavedIn t saved own place entry
+  pub saved_in : (place key : ℕ) (entry : Salvaged) → slice_get given.salvage.now.entries place ≡ Some entry → IsObjectAt image given own (spot_of place entry) key true
+      → IsSavedIn t given own place entry
   saved_in place key entry at o = record { key = key; at_path = o.there t s; same = o.same t s refl entry at }
 
   -- what is at the path of an entry is what was found at another place
@@ -75,47 +75,47 @@ module _ (image : List ℕ) (saved : Saved) (own : OwnNames) (t : Tree) (s : Sta
       }
 
 -- the reason of an entry whose name is taken says whether both are directories
-pub taken_reason : (t : Tree) (saved : Saved) (own : OwnNames) (place : ℕ) (entry : Salvaged) (both : Bool) → IsTaken t saved own (spot_of place entry) entry.state both
-    → HasReason t saved own place entry (if both then Joined else Taken)
-taken_reason t saved own place entry true taken = taken
-taken_reason t saved own place entry false taken = taken
+pub taken_reason : (t : Tree) (given : Given) (own : OwnNames) (place : ℕ) (entry : Salvaged) (both : Bool) → IsTaken t given own (spot_of place entry) entry.state both
+    → HasReason t given own place entry (if both then Joined else Taken)
+taken_reason t given own place entry true taken = taken
+taken_reason t given own place entry false taken = taken
 
 -- each entry before this position is there, or it is left out for its reason; no other one is left out
-pub record AreToldBelow (t : Tree) (saved : Saved) (own : OwnNames) (left : List LeftEntry) (n : ℕ) : Type 0 where
-  pub told : (place : ℕ) (entry : Salvaged) → place < n → slice_get saved.entries place ≡ Some entry
-      → IsLostState entry.state ⊎ IsSavedIn t saved own place entry ⊎ Contains (places_of left) place
+pub record AreToldBelow (t : Tree) (given : Given) (own : OwnNames) (left : List LeftEntry) (n : ℕ) : Type 0 where
+  pub told : (place : ℕ) (entry : Salvaged) → place < n → slice_get given.salvage.now.entries place ≡ Some entry
+      → IsLostState entry.state ⊎ IsSavedIn t given own place entry ⊎ Contains (places_of left) place
   pub below : All (λ (place : ℕ). place < n) (places_of left)
   pub in_order : AllPairs (λ (a b : ℕ). a < b) (places_of left)
-  pub reasons : All (IsLeftOut t saved own) left
+  pub reasons : All (IsLeftOut t given own) left
 
-pub none_told : (t : Tree) (saved : Saved) (own : OwnNames) → AreToldBelow t saved own [] 0
-none_told t saved own = record {
+pub none_told : (t : Tree) (given : Given) (own : OwnNames) → AreToldBelow t given own [] 0
+none_told t given own = record {
   told = λ place entry low at. absurd (omega (arith, low));
   below = All-nil (λ (place : ℕ). place < 0);
   in_order = λ i j d low inside. absurd (omega (arith, inside));
-  reasons = All-nil (IsLeftOut t saved own);
+  reasons = All-nil (IsLeftOut t given own);
 }
 
 -- the first place is the last one, or before it
 last_or_before : (place n : ℕ) → place < n + 1 → (place ≡ n) ⊎ (place < n)
 last_or_before place n lt = let le : place ≤ n = omega (arith, lt) in eq-or-lt_of_le le
 
-module _ (t : Tree) (saved : Saved) (own : OwnNames) (left : List LeftEntry) (n : ℕ) (read : Salvaged) (at : slice_get saved.entries n ≡ Some read) (before : AreToldBelow t saved own left n) where
+module _ (t : Tree) (given : Given) (own : OwnNames) (left : List LeftEntry) (n : ℕ) (read : Salvaged) (at : slice_get given.salvage.now.entries n ≡ Some read) (before : AreToldBelow t given own left n) where
   -- what is told of the positions below the next one, if it is told of this one
-  told_more : (more : List LeftEntry) → IsLostState read.state ⊎ IsSavedIn t saved own n read ⊎ Contains (places_of (left ++ more)) n
-      → (place : ℕ) (entry : Salvaged) → place < n + 1 → slice_get saved.entries place ≡ Some entry
-      → IsLostState entry.state ⊎ IsSavedIn t saved own place entry ⊎ Contains (places_of (left ++ more)) place
+  told_more : (more : List LeftEntry) → IsLostState read.state ⊎ IsSavedIn t given own n read ⊎ Contains (places_of (left ++ more)) n
+      → (place : ℕ) (entry : Salvaged) → place < n + 1 → slice_get given.salvage.now.entries place ≡ Some entry
+      → IsLostState entry.state ⊎ IsSavedIn t given own place entry ⊎ Contains (places_of (left ++ more)) place
   told_more more here place entry low there = go (last_or_before place n low)
     where
-      go : (place ≡ n) ⊎ (place < n) → IsLostState entry.state ⊎ IsSavedIn t saved own place entry ⊎ Contains (places_of (left ++ more)) place
+      go : (place ≡ n) ⊎ (place < n) → IsLostState entry.state ⊎ IsSavedIn t given own place entry ⊎ Contains (places_of (left ++ more)) place
       go (inl same) =
-          let is : entry ≡ read = same_entry saved.entries n entry read (ap (slice_get saved.entries) (sym same) ∙ there) at in
-          subst (λ (e : Salvaged). IsLostState e.state ⊎ IsSavedIn t saved own place e ⊎ Contains (places_of (left ++ more)) place) (sym is)
-          (subst (λ (p : ℕ). IsLostState read.state ⊎ IsSavedIn t saved own p read ⊎ Contains (places_of (left ++ more)) p) (sym same) here)
+          let is : entry ≡ read = same_entry given.salvage.now.entries n entry read (ap (slice_get given.salvage.now.entries) (sym same) ∙ there) at in
+          subst (λ (e : Salvaged). IsLostState e.state ⊎ IsSavedIn t given own place e ⊎ Contains (places_of (left ++ more)) place) (sym is)
+          (subst (λ (p : ℕ). IsLostState read.state ⊎ IsSavedIn t given own p read ⊎ Contains (places_of (left ++ more)) p) (sym same) here)
       go (inr less) = later (before.told place entry less there)
         where
-          later : IsLostState entry.state ⊎ IsSavedIn t saved own place entry ⊎ Contains (places_of left) place
-              → IsLostState entry.state ⊎ IsSavedIn t saved own place entry ⊎ Contains (places_of (left ++ more)) place
+          later : IsLostState entry.state ⊎ IsSavedIn t given own place entry ⊎ Contains (places_of left) place
+              → IsLostState entry.state ⊎ IsSavedIn t given own place entry ⊎ Contains (places_of (left ++ more)) place
           later (inl lost) = inl lost
           later (inr (inl there)) = inr (inl there)
           later (inr (inr out)) =
@@ -125,39 +125,39 @@ module _ (t : Tree) (saved : Saved) (own : OwnNames) (left : List LeftEntry) (n 
   below_more : All (λ (place : ℕ). place < n + 1) (places_of left)
   below_more = All-weaker (λ (place : ℕ). place < n) (λ (place : ℕ). place < n + 1) (λ (place : ℕ) low. omega (arith, low)) (places_of left) before.below
 
-  pub none_more : IsLostState read.state ⊎ IsSavedIn t saved own n read → AreToldBelow t saved own (left ++ []) (n + 1)
+  pub none_more : IsLostState read.state ⊎ IsSavedIn t given own n read → AreToldBelow t given own (left ++ []) (n + 1)
   none_more here = record {
     told = told_more [] (spread here);
     below = subst (λ (xs : List LeftEntry). All (λ (place : ℕ). place < n + 1) (places_of xs)) (sym (append-nil left)) below_more;
     in_order = subst (λ (xs : List LeftEntry). AllPairs (λ (a b : ℕ). a < b) (places_of xs)) (sym (append-nil left)) before.in_order;
-    reasons = subst (All (IsLeftOut t saved own)) (sym (append-nil left)) before.reasons;
+    reasons = subst (All (IsLeftOut t given own)) (sym (append-nil left)) before.reasons;
   }
     where
-      spread : IsLostState read.state ⊎ IsSavedIn t saved own n read → IsLostState read.state ⊎ IsSavedIn t saved own n read ⊎ Contains (places_of (left ++ [])) n
+      spread : IsLostState read.state ⊎ IsSavedIn t given own n read → IsLostState read.state ⊎ IsSavedIn t given own n read ⊎ Contains (places_of (left ++ [])) n
       spread (inl lost) = inl lost
       spread (inr there) = inr (inl there)
 
-  pub one_left : (why : LeftOut) → ¬ IsLostState read.state → HasReason t saved own n read why
-      → AreToldBelow t saved own (left ++ left_entry n why ∷ []) (n + 1)
+  pub one_left : (why : LeftOut) → ¬ IsLostState read.state → HasReason t given own n read why
+      → AreToldBelow t given own (left ++ left_entry n why ∷ []) (n + 1)
   one_left why not_lost reason = record {
     told = told_more (left_entry n why ∷ []) (inr (inr (subst (λ (xs : List ℕ). Contains xs n) places (Contains-append_right (places_of left) (n ∷ []) n (0, omega arith, refl)))));
     below = subst (All (λ (place : ℕ). place < n + 1)) places (All-push (λ (place : ℕ). place < n + 1) (places_of left) n below_more (omega arith));
     in_order = subst (AllPairs (λ (a b : ℕ). a < b)) places
         (all_pairs_push (λ (a b : ℕ). a < b) (places_of left) n before.in_order (λ k d inside. All-get_or (λ (place : ℕ). place < n) (places_of left) k d inside before.below));
-    reasons = All-push (IsLeftOut t saved own) left (left_entry n why) before.reasons (record { entry = read; there = at; not_lost = not_lost; reason = reason });
+    reasons = All-push (IsLeftOut t given own) left (left_entry n why) before.reasons (record { entry = read; there = at; not_lost = not_lost; reason = reason });
   }
     where
       places : places_of left ++ n ∷ [] ≡ places_of (left ++ left_entry n why ∷ [])
       places = sym (map-append (λ (e : LeftEntry). e.place) left (left_entry n why ∷ []))
 
-  pub more_told : (why : Option LeftOut) → IsTold t saved own n read why → AreToldBelow t saved own (left ++ left_at n why) (n + 1)
+  pub more_told : (why : Option LeftOut) → IsTold t given own n read why → AreToldBelow t given own (left ++ left_at n why) (n + 1)
   more_told None told = none_more told
   more_told (Some why) told = one_left why told.0 told.1
 
 -- all entries are there, or left out for their reasons
-pub all_saved : (t : Tree) (saved : Saved) (own : OwnNames) (left : List LeftEntry) (n : ℕ) → length saved.entries ≤ n → AreToldBelow t saved own left n
-    → ((place : ℕ) (entry : Salvaged) → slice_get saved.entries place ≡ Some entry → place < length saved.entries) → AreSaved t saved own left
-all_saved t saved own left n all below within = λ place entry at. below.told place entry (omega (arith, within place entry at, all)) at
+pub all_saved : (t : Tree) (given : Given) (own : OwnNames) (left : List LeftEntry) (n : ℕ) → length given.salvage.now.entries ≤ n → AreToldBelow t given own left n
+    → ((place : ℕ) (entry : Salvaged) → slice_get given.salvage.now.entries place ≡ Some entry → place < length given.salvage.now.entries) → AreSaved t given own left
+all_saved t given own left n all below within = λ place entry at. below.told place entry (omega (arith, within place entry at, all)) at
 
-pub all_left : (t : Tree) (saved : Saved) (own : OwnNames) (left : List LeftEntry) (n : ℕ) → AreToldBelow t saved own left n → AreLeftOut t saved own left
-all_left t saved own left n below = record { in_order = below.in_order; reasons = below.reasons }
+pub all_left : (t : Tree) (given : Given) (own : OwnNames) (left : List LeftEntry) (n : ℕ) → AreToldBelow t given own left n → AreLeftOut t given own left
+all_left t given own left n below = record { in_order = below.in_order; reasons = below.reasons }

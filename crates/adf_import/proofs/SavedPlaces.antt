@@ -1,7 +1,6 @@
 -- Paths of places in a new volume, and what is found there.
 use Rattle.std.proofs.Common.{◌≡◌, ℕ, Bool, true, false, List, [], ◌∷◌, ◌++◌, Option, Some, None, option_map, slice_get, refl, sym, ap, ◌∙◌, subst, append_assoc, append-nil}
 use Rattle.adf_import.proofs.Common.{HasDirectory, Stands, Tree, child_of, root}
-use Rattle.ados_salvage.specs.Salvaged.{Saved}
 use Rattle.ados_salvage.specs.declared.salvaged.Salvaged.{Salvaged}
 use Rattle.adf_import.specs.SavedNames.{name_for}
 use Rattle.adf_import.specs.SavedVolume.{IsAtSpot, IsPathOf, front_for}
@@ -10,6 +9,7 @@ use Rattle.adf_import.specs.SavedVolume.LeadsTo.{at_root, child}
 use Rattle.adf_import.specs.declared.saved_names.OwnNames.{OwnNames}
 use Rattle.adf_import.specs.declared.spots.Spot.{Spot}
 use Rattle.adf_import.specs.SavedLeft.{IsNameAt, IsNameIn, above_in, root_spot, spot_above, spot_with}
+use Rattle.adf_import.specs.declared.given.Given.{Given}
 use Rattle.adf_import.specs.declared.saved_look.AtPath.{AtPath}
 use Rattle.adf_import.specs.declared.saved_look.AtPath.TheVariants as paths
 use Rattle.adf_import.specs.steps.Spots.{IsChildAt, IsFoundAt}
@@ -95,8 +95,8 @@ found_in image saved own spot dir name (paths.Object key has_all) directory at n
   there = λ t s. let above = at t s in step_down t saved.entries own name dir key (its.child t s) spot above.0 above.1 named above.2;
   same = its.same;
 }
-found_in image saved own spot dir name paths.Nothing directory at named none = λ t s.
+found_in image given own spot dir name paths.Nothing directory at named none = λ t s.
     let above = at t s in
     record { above = above.0; up = above.1; dir = dir; at_path = above.2; directory = directory t s; name = name; named = named; none = none t s }
-found_in image saved own spot dir name paths.NoDirectory directory at named never = absurd never
-found_in image saved own spot dir name paths.Unknown directory at named never = absurd never
+found_in image given own spot dir name paths.NoDirectory directory at named never = absurd never
+found_in image given own spot dir name paths.Unknown directory at named never = absurd never

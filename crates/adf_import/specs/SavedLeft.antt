@@ -5,13 +5,13 @@ use Rattle.ados_model.specs.Change.{child_of, is_file}
 use Rattle.ados_model.specs.Keys.{HasTree}
 use Rattle.ados_model.specs.Stands.{Stands}
 use Rattle.ados_model.specs.Tree.{Tree, block_cost, content_at, free}
-use Rattle.ados_salvage.specs.Salvaged.{Saved}
 use Rattle.ados_salvage.specs.Saved.{size_of}
 use Rattle.ados_salvage.specs.declared.salvaged.Salvaged.{Salvaged}
 use Rattle.ados_salvage.specs.declared.salvaged.State.{State}
 use Rattle.ados_salvage.specs.declared.salvaged.State.TheVariants as states
 use Rattle.adf_import.specs.SavedNames.{name_for}
 use Rattle.adf_import.specs.SavedVolume.{AreSaved, HasBootOf, HasHeadFor, IsAtSpot, IsDirectoryContent, IsLostState, IsSavedAs, places_of, spot_of}
+use Rattle.adf_import.specs.declared.given.Given.{Given}
 use Rattle.adf_import.specs.declared.saved_left.LeftOut.{LeftOut}
 use Rattle.adf_import.specs.declared.saved_left.LeftOut.TheVariants.{Joined, NoDirectory, NoRoom, Taken}
 use Rattle.adf_import.specs.declared.saved_names.OwnNames.{OwnNames}
@@ -47,9 +47,9 @@ abbrev pub IsNameAt : List Salvaged → OwnNames → Spot → List ℕ → Type 
 IsNameAt entries own at name = IsNameIn entries own at.damaged at.found at.entry name
 
 -- the object has everything of the entry at a position, if it is for one
-abbrev pub IsSavedAt : Tree → Saved → Option ℕ → ℕ → Type 0
-IsSavedAt t saved None key = ⊤
-IsSavedAt t saved (Some place) key = (entry : Salvaged) → slice_get saved.entries place ≡ Some entry → IsSavedAs t saved place entry key
+abbrev pub IsSavedAt : Tree → Given → Option ℕ → ℕ → Type 0
+IsSavedAt t given None key = ⊤
+IsSavedAt t given (Some place) key = (entry : Salvaged) → slice_get given.salvage.now.entries place ≡ Some entry → IsSavedAs t given place entry key
 
 -- the directory of a place is there, and has no entry with its name
 pub record IsVacant (t : Tree) (entries : List Salvaged) (own : OwnNames) (spot : Spot) : Type 0 where
@@ -73,8 +73,8 @@ abbrev pub IsCutOff : Tree → List Salvaged → OwnNames → Spot → Type 0
 IsCutOff t entries own spot = (above : Spot) × (spot_above entries spot ≡ Some above) × HasNoDirectory t entries own above
 
 -- the number of blocks that an entry needs: a header, and those for its bytes
-abbrev pub blocks_for : Tree → Saved → Salvaged → ℕ
-blocks_for t saved entry = 1 + block_cost t.format (size_of saved.image entry.header entry.state)
+abbrev pub blocks_for : Tree → Given → Salvaged → ℕ
+blocks_for t given entry = 1 + block_cost t.format (size_of given.salvage.now.image entry.header entry.state)
 
 -- a directory
 abbrev pub is_directory : State → Bool
@@ -83,45 +83,45 @@ is_directory states.DoubtfulDirectory = true
 is_directory state = false
 
 -- the object at the path of a place is that of another place, and has everything of the entry there; both entries are directories or not
-pub record IsTaken (t : Tree) (saved : Saved) (own : OwnNames) (spot : Spot) (state : State) (both : Bool) : Type 0 where
+pub record IsTaken (t : Tree) (given : Given) (own : OwnNames) (spot : Spot) (state : State) (both : Bool) : Type 0 where
   pub key : ℕ
-  pub at_path : IsAtSpot t saved.entries own spot key
+  pub at_path : IsAtSpot t given.salvage.now.entries own spot key
   pub other : Spot
   pub differs : other ≢ spot
-  pub at_other : IsAtSpot t saved.entries own other key
-  pub same : IsSavedAt t saved other.entry key
+  pub at_other : IsAtSpot t given.salvage.now.entries own other key
+  pub same : IsSavedAt t given other.entry key
   pub directories : (is_directory state && not (is_file t key)) ≡ both
 
 -- an entry needs so many blocks, and fewer are free
-pub record HasNoRoom (t : Tree) (saved : Saved) (entry : Salvaged) (needed room : ℕ) : Type 0 where
-  pub needs : needed ≡ blocks_for t saved entry
+pub record HasNoRoom (t : Tree) (given : Given) (entry : Salvaged) (needed room : ℕ) : Type 0 where
+  pub needs : needed ≡ blocks_for t given entry
   pub has : room ≡ free t
   pub less : room < needed
 
 -- the entry at a position cannot be in the volume, for this reason
-abbrev pub HasReason : Tree → Saved → OwnNames → ℕ → Salvaged → LeftOut → Type 0
-HasReason t saved own place entry (NoRoom needed room) = IsVacant t saved.entries own (spot_of place entry) × HasNoRoom t saved entry needed room
-HasReason t saved own place entry Taken = IsTaken t saved own (spot_of place entry) entry.state false
-HasReason t saved own place entry Joined = IsTaken t saved own (spot_of place entry) entry.state true
-HasReason t saved own place entry NoDirectory = IsCutOff t saved.entries own (spot_of place entry)
+abbrev pub HasReason : Tree → Given → OwnNames → ℕ → Salvaged → LeftOut → Type 0
+HasReason t given own place entry (NoRoom needed room) = IsVacant t given.salvage.now.entries own (spot_of place entry) × HasNoRoom t given entry needed room
+HasReason t given own place entry Taken = IsTaken t given own (spot_of place entry) entry.state false
+HasReason t given own place entry Joined = IsTaken t given own (spot_of place entry) entry.state true
+HasReason t given own place entry NoDirectory = IsCutOff t given.salvage.now.entries own (spot_of place entry)
 
 -- something is left of the entry, and it cannot be in the volume for its reason
-pub record IsLeftOut (t : Tree) (saved : Saved) (own : OwnNames) (left : LeftEntry) : Type 0 where
+pub record IsLeftOut (t : Tree) (given : Given) (own : OwnNames) (left : LeftEntry) : Type 0 where
   pub entry : Salvaged
-  pub there : slice_get saved.entries left.place ≡ Some entry
+  pub there : slice_get given.salvage.now.entries left.place ≡ Some entry
   pub not_lost : ¬ IsLostState entry.state
-  pub reason : HasReason t saved own left.place entry left.why
+  pub reason : HasReason t given own left.place entry left.why
 
 -- the entries that are left out, in the order of the salvage, each once, and each for its reason
-pub record AreLeftOut (t : Tree) (saved : Saved) (own : OwnNames) (left : List LeftEntry) : Type 0 where
+pub record AreLeftOut (t : Tree) (given : Given) (own : OwnNames) (left : List LeftEntry) : Type 0 where
   pub in_order : AllPairs (λ a b. a < b) (places_of left)
-  pub reasons : All (IsLeftOut t saved own) left
+  pub reasons : All (IsLeftOut t given own) left
 
 -- this image and this list are what a salvage gives: a volume with everything that can be there, its head and its boot block, and the
 -- entries that are left out
-pub record IsVolumeOf (saved : Saved) (moment : Date3) (image : List ℕ) (own : OwnNames) (left : List LeftEntry) : Type 0 where
+pub record IsVolumeOf (given : Given) (moment : Date3) (image : List ℕ) (own : OwnNames) (left : List LeftEntry) : Type 0 where
   pub stands : HasTree image
-  pub entries : (t : Tree) → Stands image t → AreSaved t saved own left
-  pub left_out : (t : Tree) → Stands image t → AreLeftOut t saved own left
-  pub head : (t : Tree) → Stands image t → HasHeadFor saved.image moment t
-  pub boot : HasBootOf saved image
+  pub entries : (t : Tree) → Stands image t → AreSaved t given own left
+  pub left_out : (t : Tree) → Stands image t → AreLeftOut t given own left
+  pub head : (t : Tree) → Stands image t → HasHeadFor given.salvage.now.image moment t
+  pub boot : HasBootOf given.salvage.now image

@@ -19,7 +19,8 @@ use Rattle.ados_salvage.specs.Saved.{HasBytes}
 use Rattle.ados_salvage.specs.declared.salvaged.Salvaged.{Salvaged}
 use Rattle.ados_salvage.specs.declared.salvaged.State.{State}
 use Rattle.ados_salvage.specs.declared.salvaged.State.TheVariants as states
-use Rattle.adf_import.specs.SavedNames.{comment_for, is_whole, name_for}
+use Rattle.adf_import.specs.SavedNames.{comment_for, is_whole, name_for, reason_of}
+use Rattle.adf_import.specs.declared.given.Given.{Given}
 use Rattle.adf_import.specs.declared.saved_names.OwnNames.{OwnNames}
 use Rattle.adf_import.specs.declared.saved_volume.LeftEntry.{LeftEntry}
 use Rattle.adf_import.specs.declared.spots.Spot.{Spot}
@@ -55,14 +56,14 @@ pub record IsAtSpot (t : Tree) (entries : List Salvaged) (own : OwnNames) (spot 
 abbrev pub spot_of : ℕ → Salvaged → Spot
 spot_of place entry = record { damaged = not (is_whole entry.state); found = entry.found; entry = Some place }
 
--- a node has the name, the bits, the date and the comment of an entry
-pub record HasNoteOf (t : Tree) (key : ℕ) (entry : Salvaged) : Type 0 where
+-- a node has the name, the bits and the date of an entry, and its comment with this reason
+pub record HasNoteOf (t : Tree) (key : ℕ) (entry : Salvaged) (reason : List ℕ) : Type 0 where
   pub node : Node
   pub there : t.nodes key ≡ Some node
   pub name : node.name ≡ name_for entry
   pub protection_bits : node.protection ≡ entry.protection.0
   pub date_field : node.date ≡ entry.date
-  pub comment : node.comment ≡ comment_for entry.state entry.comment
+  pub comment : node.comment ≡ comment_for entry.state reason entry.comment
 
 -- a directory, whatever is in it
 abbrev pub IsDirectoryContent : Option Content → Type 0
@@ -82,15 +83,15 @@ HoldsSaved saved place entry states.Lost content = ⊥
 HoldsSaved saved place entry state content = IsSavedFile saved place entry content
 
 -- the object is the entry at a position: its metadata and its bytes
-pub record IsSavedAs (t : Tree) (saved : Saved) (place : ℕ) (entry : Salvaged) (key : ℕ) : Type 0 where
-  pub noted : HasNoteOf t key entry
-  pub holds : HoldsSaved saved place entry entry.state (content_at t key)
+pub record IsSavedAs (t : Tree) (given : Given) (place : ℕ) (entry : Salvaged) (key : ℕ) : Type 0 where
+  pub noted : HasNoteOf t key entry (reason_of given place)
+  pub holds : HoldsSaved given.salvage.now place entry entry.state (content_at t key)
 
 -- the entry at a position is in the new volume: at its path, with its metadata and its bytes
-pub record IsSavedIn (t : Tree) (saved : Saved) (own : OwnNames) (place : ℕ) (entry : Salvaged) : Type 0 where
+pub record IsSavedIn (t : Tree) (given : Given) (own : OwnNames) (place : ℕ) (entry : Salvaged) : Type 0 where
   pub key : ℕ
-  pub at_path : IsAtSpot t saved.entries own (spot_of place entry) key
-  pub same : IsSavedAs t saved place entry key
+  pub at_path : IsAtSpot t given.salvage.now.entries own (spot_of place entry) key
+  pub same : IsSavedAs t given place entry key
 
 -- an entry of which nothing is left
 abbrev pub IsLostState : State → Type 0
@@ -102,10 +103,10 @@ abbrev pub places_of : List LeftEntry → List ℕ
 places_of left = map (λ entry. entry.place) left
 
 -- each entry of which something is left is in the new volume, or among those that are left out
-abbrev pub AreSaved : Tree → Saved → OwnNames → List LeftEntry → Type 0
-AreSaved t saved own left =
-    (place : ℕ) (entry : Salvaged) → slice_get saved.entries place ≡ Some entry
-    → IsLostState entry.state ⊎ IsSavedIn t saved own place entry ⊎ Contains (places_of left) place
+abbrev pub AreSaved : Tree → Given → OwnNames → List LeftEntry → Type 0
+AreSaved t given own left =
+    (place : ℕ) (entry : Salvaged) → slice_get given.salvage.now.entries place ≡ Some entry
+    → IsLostState entry.state ⊎ IsSavedIn t given own place entry ⊎ Contains (places_of left) place
 
 -- the types of a root and a right checksum
 pub record HasRootFields (image : List ℕ) (block : ℕ) : Type 0 where

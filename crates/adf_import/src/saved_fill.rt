@@ -2,6 +2,7 @@
 ghost use Rattle.std.specs.Prelude.{OnOk};
 ghost use Rattle.adf_import.specs.Progress.{Advances, IsReady};
 
+use crate::given::Given;
 use crate::host_files::without_note;
 use crate::new_file::{NewFile, put_file};
 use crate::progress::Progress;
@@ -11,7 +12,6 @@ use crate::saved_plan::SavedItem;
 use crate::spots::is_directory;
 use adf_text::Uaem;
 use ados_name::{Comment, Date3, Name};
-use ados_salvage::Salvage;
 use ados_volume::Volume;
 use std::alloc::{AllocError, Global};
 
@@ -19,7 +19,7 @@ use std::alloc::{AllocError, Global};
 #[derive(Drop)]
 struct Filling<'a> {
     alloc: Global,
-    salvage: &'a Salvage,
+    given: Given<'a>,
     moment: Date3,
 }
 
@@ -28,13 +28,13 @@ struct Filling<'a> {
 pub(crate) fn fill(
     alloc: Global,
     volume: &mut Volume,
-    salvage: &Salvage,
+    given: Given<'_>,
     items: &[SavedItem],
     moment: Date3,
 ) -> Result<(), AllocError> {
     let filling = Filling {
         alloc,
-        salvage,
+        given,
         moment,
     };
     let top = volume.root();
@@ -86,7 +86,7 @@ impl Filling<'_> {
 
     /// Whether the entry at a position is a file.
     fn is_file(&self, place: usize) -> bool {
-        match self.salvage.entries().get(place) {
+        match self.given.salvage.entries().get(place) {
             Some(entry) => !is_directory(entry.state),
             None => false,
         }
@@ -169,17 +169,22 @@ impl Filling<'_> {
 
     /// The bytes that were saved of the entry at a position.
     fn bytes_of(&self, place: usize) -> Result<Vec<u8>, AllocError> {
-        if place >= self.salvage.entries().len() {
+        if place >= self.given.salvage.entries().len() {
             return Ok(Vec::new(self.alloc));
         }
-        self.salvage.bytes_of(self.alloc, place)
+        self.given.salvage.bytes_of(self.alloc, place)
     }
 
     /// The metadata in the new volume of the entry at a position. `Damaged` and `lost+found` have a date alone.
     fn note_of(&self, place: Option<usize>) -> Result<Uaem, AllocError> {
-        match place.and_then(|place| self.salvage.entries().get(place)) {
+        let reason = match place {
+            Some(place) => self.given.reason(place),
+            None => &[],
+        };
+        match place.and_then(|place| self.given.salvage.entries().get(place)) {
             Some(entry) => {
-                let comment = comment_for(self.alloc, entry.state, entry.comment.bytes())?;
+                let old = entry.comment.bytes();
+                let comment = comment_for(self.alloc, entry.state, reason, old)?;
                 Ok(Uaem {
                     protect: entry.protection,
                     date: entry.date,

@@ -10,12 +10,13 @@ ghost use Rattle.adf_import.specs.SavedVolume.{AreSaved};
 ghost use Rattle.adf_import.specs.declared.saved_left.LeftOut.TheVariants.{Joined, NoRoom, Taken};
 ghost use Rattle.adf_import.specs.steps.Spots.{IsLooked, IsOfOther, IsTold, left_at};
 
+use crate::given::Given;
 use crate::room::new_file_blocks;
 use crate::saved_look::{AtPath, Looked, looked_at};
 use crate::saved_plan::SavedPlan;
 use crate::saved_volume::LeftEntry;
 use crate::spots::{Spot, is_directory};
-use ados_salvage::{Salvage, State};
+use ados_salvage::State;
 use ados_volume::{Volume, free_blocks};
 use std::alloc::{AllocError, Global};
 
@@ -37,17 +38,17 @@ pub enum LeftOut {
 pub(crate) fn left_entries(
     alloc: Global,
     volume: &Volume,
-    salvage: &Salvage,
+    given: &Given<'_>,
     plan: &SavedPlan,
     looked: &[Looked],
 ) -> Result<Vec<LeftEntry>, AllocError>
-    requires { All (IsLooked volume.now.image salvage.now plan.now.own) looked.now }
-    ensures saved { IfOk result (λ left. (t : Tree) → Stands volume.now.image t → AreSaved t salvage.now plan.now.own left.items) }
-    ensures left { IfOk result (λ left. (t : Tree) → Stands volume.now.image t → AreLeftOut t salvage.now plan.now.own left.items) }
+    requires { All (IsLooked volume.now.image given.now plan.now.own) looked.now }
+    ensures saved { IfOk result (λ left. (t : Tree) → Stands volume.now.image t → AreSaved t given.now plan.now.own left.items) }
+    ensures left { IfOk result (λ left. (t : Tree) → Stands volume.now.image t → AreLeftOut t given.now plan.now.own left.items) }
 {
     let mut left = Vec::new(alloc);
-    for place in 0..salvage.entries().len() {
-        let why = why_left(volume, salvage, plan, looked, place)?;
+    for place in 0..given.salvage.entries().len() {
+        let why = why_left(volume, given, plan, looked, place)?;
         push_left(&mut left, place, why)?;
     }
     Ok(left)
@@ -73,17 +74,17 @@ fn push_left(
 /// Why the entry at a position is left out; `None` if nothing is left of it, or if it was found.
 fn why_left(
     volume: &Volume,
-    salvage: &Salvage,
+    given: &Given<'_>,
     plan: &SavedPlan,
     looked: &[Looked],
     place: usize,
 ) -> Result<Option<LeftOut>, AllocError>
-    requires place { place < length salvage.now.entries }
-    requires looked { All (IsLooked volume.now.image salvage.now plan.now.own) looked.now }
-    ensures { IfOk result (λ why. (t : Tree) (entry : Entry) → Stands volume.now.image t → slice_get salvage.now.entries place ≡ Some entry
-        → IsTold t salvage.now plan.now.own place entry why) }
+    requires place { place < length given.now.salvage.now.entries }
+    requires looked { All (IsLooked volume.now.image given.now plan.now.own) looked.now }
+    ensures { IfOk result (λ why. (t : Tree) (entry : Entry) → Stands volume.now.image t → slice_get given.now.salvage.now.entries place ≡ Some entry
+        → IsTold t given.now plan.now.own place entry why) }
 {
-    let entry = &salvage.entries()[place];
+    let entry = &given.salvage.entries()[place];
     if entry.state == State::Lost {
         return Ok(None);
     }
@@ -95,7 +96,7 @@ fn why_left(
             Ok(Some(why))
         }
         AtPath::Nothing => {
-            let why = no_room(volume, salvage, place)?;
+            let why = no_room(volume, given, place)?;
             Ok(Some(why))
         }
         AtPath::NoDirectory => Ok(Some(LeftOut::NoDirectory)),
@@ -149,12 +150,12 @@ fn is_of_other(looked: &[Looked], spot: Spot, key: u32) -> bool
 }
 
 /// The reason of an entry that needs more blocks than are free. There is none if it does not.
-fn no_room(volume: &Volume, salvage: &Salvage, place: usize) -> Result<LeftOut, AllocError>
-    requires { place < length salvage.now.entries }
-    ensures { IfOk result (λ why. (t : Tree) (entry : Entry) → Stands volume.now.image t → slice_get salvage.now.entries place ≡ Some entry
-        → (needed : ℕ) × (room : ℕ) × HasNoRoom t salvage.now entry needed room × (why ≡ NoRoom needed room)) }
+fn no_room(volume: &Volume, given: &Given<'_>, place: usize) -> Result<LeftOut, AllocError>
+    requires { place < length given.now.salvage.now.entries }
+    ensures { IfOk result (λ why. (t : Tree) (entry : Entry) → Stands volume.now.image t → slice_get given.now.salvage.now.entries place ≡ Some entry
+        → (needed : ℕ) × (room : ℕ) × HasNoRoom t given.now entry needed room × (why ≡ NoRoom needed room)) }
 {
-    let needed = new_file_blocks(volume, salvage.size_of(place));
+    let needed = new_file_blocks(volume, given.salvage.size_of(place));
     let free = free_blocks(volume);
     if u64::from(free) >= needed {
         return Err(AllocError);

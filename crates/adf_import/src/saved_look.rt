@@ -4,18 +4,20 @@ ghost use Rattle.ados_model.specs.Keys.{HasDirectory, HasKey};
 ghost use Rattle.ados_model.specs.Stands.{Stands};
 ghost use Rattle.ados_model.specs.Tree.{Tree, content_at};
 ghost use Rattle.ados_salvage.specs.declared.salvaged.Salvaged.{Salvaged as Entry};
-ghost use Rattle.ados_salvage.specs.Salvaged.{Saved};
 ghost use Rattle.ados_salvage.specs.Saved.{IsAt};
 ghost use Rattle.adf_import.specs.SavedLeft.{IsNameAt, IsSavedAt};
+ghost use Rattle.adf_import.specs.SavedNames.{reason_of};
 ghost use Rattle.adf_import.specs.SavedVolume.{HasNoteOf, HoldsSaved, IsSavedFile};
+ghost use Rattle.adf_import.specs.declared.given.Given.{Given as Told};
 ghost use Rattle.adf_import.specs.declared.saved_names.OwnNames.{OwnNames as Own};
 ghost use Rattle.adf_import.specs.steps.Spots.{IsAboveAt, IsChildAt, IsFoundAt, IsLooked, IsNoteOf};
 
+use crate::given::Given;
 use crate::saved_names::{OwnNames, comment_for, name_for};
 use crate::saved_plan::{SavedItem, SavedPlan};
 use crate::spots::Spot;
 use ados_model::FileInfo;
-use ados_salvage::{Salvage, Salvaged, State};
+use ados_salvage::{Salvaged, State};
 use ados_volume::{Volume, free_blocks, read_file};
 use std::alloc::{AllocError, Global};
 
@@ -53,15 +55,15 @@ pub(crate) enum Above {
 pub(crate) fn look_through(
     alloc: Global,
     volume: &mut Volume,
-    salvage: &Salvage,
+    given: &Given<'_>,
     plan: &SavedPlan,
 ) -> Result<Vec<Looked>, AllocError>
-    ensures looked { IfOk result (λ looked. All (IsLooked volume.old.image salvage.now plan.now.own) looked.items) }
+    ensures looked { IfOk result (λ looked. All (IsLooked volume.old.image given.now plan.now.own) looked.items) }
     ensures same { volume.new ≡ volume.old }
 {
     let mut looked = Vec::with_capacity(alloc, plan.items.len())?;
     for item in plan.items.iter() {
-        let found = look_up(alloc, volume, salvage, &plan.own, &looked, item)?;
+        let found = look_up(alloc, volume, given, &plan.own, &looked, item)?;
         looked.push(found)?;
     }
     Ok(looked)
@@ -71,17 +73,17 @@ pub(crate) fn look_through(
 fn look_up(
     alloc: Global,
     volume: &mut Volume,
-    salvage: &Salvage,
+    given: &Given<'_>,
     own: &OwnNames,
     looked: &[Looked],
     item: &SavedItem,
 ) -> Result<Looked, AllocError>
-    requires { All (IsLooked volume.old.image salvage.now own.now) looked.now }
-    ensures looked { IfOk result (IsLooked volume.old.image salvage.now own.now) }
+    requires { All (IsLooked volume.old.image given.now own.now) looked.now }
+    ensures looked { IfOk result (IsLooked volume.old.image given.now own.now) }
     ensures same { volume.new ≡ volume.old }
 {
     let spot = item.spot;
-    let there = path_of(alloc, volume, salvage, own, looked, item)?;
+    let there = path_of(alloc, volume, given, own, looked, item)?;
     Ok(Looked { spot, there })
 }
 
@@ -89,21 +91,21 @@ fn look_up(
 fn path_of(
     alloc: Global,
     volume: &mut Volume,
-    salvage: &Salvage,
+    given: &Given<'_>,
     own: &OwnNames,
     looked: &[Looked],
     item: &SavedItem,
 ) -> Result<AtPath, AllocError>
-    requires { All (IsLooked volume.old.image salvage.now own.now) looked.now }
-    ensures there { IfOk result (IsFoundAt volume.old.image salvage.now own.now item.now.spot) }
+    requires { All (IsLooked volume.old.image given.now own.now) looked.now }
+    ensures there { IfOk result (IsFoundAt volume.old.image given.now own.now item.now.spot) }
     ensures same { volume.new ≡ volume.old }
 {
-    let named = is_named(alloc, salvage.entries(), own, item)?;
+    let named = is_named(alloc, given.salvage.entries(), own, item)?;
     if !named {
         return Ok(AtPath::Unknown);
     }
-    match directory_at(volume, salvage, own, looked, item) {
-        Above::Directory(dir) => child_at(alloc, volume, salvage, item, dir),
+    match directory_at(volume, given, own, looked, item) {
+        Above::Directory(dir) => child_at(alloc, volume, given, item, dir),
         Above::Missing => Ok(AtPath::NoDirectory),
         Above::Unknown => Ok(AtPath::Unknown),
     }
@@ -113,17 +115,17 @@ fn path_of(
 fn child_at(
     alloc: Global,
     volume: &mut Volume,
-    salvage: &Salvage,
+    given: &Given<'_>,
     item: &SavedItem,
     dir: u32,
 ) -> Result<AtPath, AllocError>
     requires { HasDirectory volume.old.image dir }
-    ensures there { IfOk result (IsChildAt volume.old.image salvage.now item.now.spot dir item.now.name) }
+    ensures there { IfOk result (IsChildAt volume.old.image given.now item.now.spot dir item.now.name) }
     ensures same { volume.new ≡ volume.old }
 {
     match volume.child(dir, &item.name) {
         Some(key) => {
-            let saved = is_saved(alloc, volume, salvage, item.spot, key)?;
+            let saved = is_saved(alloc, volume, given, item.spot, key)?;
             Ok(AtPath::Object { key, saved })
         }
         None => Ok(AtPath::Nothing),
@@ -160,15 +162,15 @@ fn is_named(
 /// The directory at the place above an item: the root, or what was found for the item above.
 fn directory_at(
     volume: &Volume,
-    salvage: &Salvage,
+    given: &Given<'_>,
     own: &OwnNames,
     looked: &[Looked],
     item: &SavedItem,
 ) -> Above
-    requires { All (IsLooked volume.now.image salvage.now own.now) looked.now }
-    ensures { IsAboveAt volume.now.image salvage.now own.now item.now.spot result }
+    requires { All (IsLooked volume.now.image given.now own.now) looked.now }
+    ensures { IsAboveAt volume.now.image given.now own.now item.now.spot result }
 {
-    let Some(above) = item.spot.above(salvage.entries()) else {
+    let Some(above) = item.spot.above(given.salvage.entries()) else {
         return Above::Unknown;
     };
     if above.is_root() {
@@ -194,7 +196,7 @@ fn directory_at(
 
 /// What was found for the item at a position, if that item is for this place.
 pub(crate) fn looked_at(looked: &[Looked], item: Option<usize>, spot: Spot) -> AtPath
-    ensures { (image : List ℕ) (saved : Saved) (own : Own) → All (IsLooked image saved own) looked.now → IsFoundAt image saved own spot result }
+    ensures { (image : List ℕ) (given : Told) (own : Own) → All (IsLooked image given own) looked.now → IsFoundAt image given own spot result }
 {
     let Some(item) = item else {
         return AtPath::Unknown;
@@ -208,7 +210,7 @@ pub(crate) fn looked_at(looked: &[Looked], item: Option<usize>, spot: Spot) -> A
 impl Looked {
     /// What was found, if it is for this place.
     fn at(&self, spot: Spot) -> AtPath
-        ensures { (image : List ℕ) (saved : Saved) (own : Own) → IsLooked image saved own self.now → IsFoundAt image saved own spot result }
+        ensures { (image : List ℕ) (given : Told) (own : Own) → IsLooked image given own self.now → IsFoundAt image given own spot result }
     {
         if self.spot != spot {
             return AtPath::Unknown;
@@ -221,54 +223,56 @@ impl Looked {
 fn is_saved(
     alloc: Global,
     volume: &Volume,
-    salvage: &Salvage,
+    given: &Given<'_>,
     spot: Spot,
     key: u32,
 ) -> Result<bool, AllocError>
     requires { HasKey volume.now.image key }
-    ensures { IfOk result (λ saved. (t : Tree) → Stands volume.now.image t → IsTrue saved → IsSavedAt t salvage.now spot.entry key) }
+    ensures { IfOk result (λ saved. (t : Tree) → Stands volume.now.image t → IsTrue saved → IsSavedAt t given.now spot.entry key) }
 {
     let Some(place) = spot.entry else {
         return Ok(true);
     };
-    if place >= salvage.entries().len() {
+    if place >= given.salvage.entries().len() {
         return Ok(false);
     }
-    let noted = has_note(alloc, volume, salvage, place, key)?;
+    let noted = has_note(alloc, volume, given, place, key)?;
     if !noted {
         return Ok(false);
     }
-    has_content(alloc, volume, salvage, place, key)
+    has_content(alloc, volume, given, place, key)
 }
 
 /// Whether an object has the name, the bits, the date and the comment of the entry at a position.
 fn has_note(
     alloc: Global,
     volume: &Volume,
-    salvage: &Salvage,
+    given: &Given<'_>,
     place: usize,
     key: u32,
 ) -> Result<bool, AllocError>
-    requires place { place < length salvage.now.entries }
+    requires place { place < length given.now.salvage.now.entries }
     requires key { HasKey volume.now.image key }
-    ensures { IfOk result (λ noted. (t : Tree) (entry : Entry) → Stands volume.now.image t → IsAt salvage.now.entries place entry → IsTrue noted
-        → HasNoteOf t key entry) }
+    ensures { IfOk result (λ noted. (t : Tree) (entry : Entry) → Stands volume.now.image t → IsAt given.now.salvage.now.entries place entry → IsTrue noted
+        → HasNoteOf t key entry (reason_of given.now place)) }
 {
-    has_note_of(alloc, volume, &salvage.entries()[place], key)
+    let entry = &given.salvage.entries()[place];
+    has_note_of(alloc, volume, entry, given.reason(place), key)
 }
 
-/// Whether an object has the name, the bits, the date and the comment of an entry.
+/// Whether an object has the name, the bits and the date of an entry, and its comment with this reason.
 fn has_note_of(
     alloc: Global,
     volume: &Volume,
     entry: &Salvaged,
+    reason: &[u8],
     key: u32,
 ) -> Result<bool, AllocError>
     requires { HasKey volume.now.image key }
-    ensures { IfOk result (λ noted. (t : Tree) → Stands volume.now.image t → IsTrue noted → HasNoteOf t key entry.now) }
+    ensures { IfOk result (λ noted. (t : Tree) → Stands volume.now.image t → IsTrue noted → HasNoteOf t key entry.now reason.now) }
 {
     let name = name_for(alloc, entry)?;
-    let comment = comment_for(alloc, entry.state, entry.comment.bytes())?;
+    let comment = comment_for(alloc, entry.state, reason, entry.comment.bytes())?;
     let told = volume.examine(key);
     Ok(same_note(&told, entry, name.as_slice(), comment.as_slice()))
 }
@@ -287,20 +291,20 @@ fn same_note(told: &FileInfo, entry: &Salvaged, name: &[u8], comment: &[u8]) -> 
 fn has_content(
     alloc: Global,
     volume: &Volume,
-    salvage: &Salvage,
+    given: &Given<'_>,
     place: usize,
     key: u32,
 ) -> Result<bool, AllocError>
-    requires place { place < length salvage.now.entries }
+    requires place { place < length given.now.salvage.now.entries }
     requires key { HasKey volume.now.image key }
-    ensures { IfOk result (λ holds. (t : Tree) (entry : Entry) → Stands volume.now.image t → IsAt salvage.now.entries place entry → IsTrue holds
-        → HoldsSaved salvage.now place entry entry.state (content_at t key)) }
+    ensures { IfOk result (λ holds. (t : Tree) (entry : Entry) → Stands volume.now.image t → IsAt given.now.salvage.now.entries place entry → IsTrue holds
+        → HoldsSaved given.now.salvage.now place entry entry.state (content_at t key)) }
 {
-    match salvage.entries()[place].state {
+    match given.salvage.entries()[place].state {
         State::Directory | State::DoubtfulDirectory => Ok(!volume.is_file(key)),
         State::Lost => Ok(false),
         State::Whole | State::Doubtful { .. } | State::Broken { .. } => {
-            has_bytes(alloc, volume, salvage, place, key)
+            has_bytes(alloc, volume, given, place, key)
         }
     }
 }
@@ -309,19 +313,19 @@ fn has_content(
 fn has_bytes(
     alloc: Global,
     volume: &Volume,
-    salvage: &Salvage,
+    given: &Given<'_>,
     place: usize,
     key: u32,
 ) -> Result<bool, AllocError>
-    requires place { place < length salvage.now.entries }
+    requires place { place < length given.now.salvage.now.entries }
     requires key { HasKey volume.now.image key }
-    ensures { IfOk result (λ holds. (t : Tree) (entry : Entry) → Stands volume.now.image t → IsAt salvage.now.entries place entry → IsTrue holds
-        → IsSavedFile salvage.now place entry (content_at t key)) }
+    ensures { IfOk result (λ holds. (t : Tree) (entry : Entry) → Stands volume.now.image t → IsAt given.now.salvage.now.entries place entry → IsTrue holds
+        → IsSavedFile given.now.salvage.now place entry (content_at t key)) }
 {
     if !volume.is_file(key) {
         return Ok(false);
     }
-    let saved = salvage.bytes_of(alloc, place)?;
+    let saved = given.salvage.bytes_of(alloc, place)?;
     let bytes = read_file(alloc, volume, key)?;
     Ok(bytes.as_slice() == saved.as_slice())
 }

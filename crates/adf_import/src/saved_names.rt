@@ -4,7 +4,7 @@ ghost use Rattle.adf_import.specs.SavedNames.{broken_text, comment_for, doubt_of
 
 use crate::spots::is_whole;
 use ados_name::{Comment, Name, upper};
-use ados_salvage::{HeaderState, Salvaged, State};
+use ados_salvage::{Salvaged, State};
 use itoa::Buffer;
 use std::alloc::{AllocError, Global};
 use std::collections::BTreeSet;
@@ -86,13 +86,19 @@ fn cut(text: &[u8]) -> &[u8]
 }
 
 /// The comment of an entry in this state, with this comment: if it is not whole, the reason, and the comment behind it if there is room.
-pub(crate) fn comment_for(alloc: Global, state: State, old: &[u8]) -> Result<Vec<u8>, AllocError>
-    ensures { IfOk result (λ text. text.items ≡ comment_for state old.now) }
+/// `reason` is that of a doubtful one.
+pub(crate) fn comment_for(
+    alloc: Global,
+    state: State,
+    reason: &[u8],
+    old: &[u8],
+) -> Result<Vec<u8>, AllocError>
+    ensures { IfOk result (λ text. text.items ≡ comment_for state reason.now old.now) }
 {
     if is_whole(state) {
         return Vec::from_slice(alloc, old);
     }
-    let why = why_of(alloc, state)?;
+    let why = why_of(alloc, state, reason)?;
     joined(why, old)
 }
 
@@ -109,33 +115,25 @@ fn joined(mut why: Vec<u8>, old: &[u8]) -> Result<Vec<u8>, AllocError>
     Ok(why)
 }
 
-/// Why an entry is not whole.
-fn why_of(alloc: Global, state: State) -> Result<Vec<u8>, AllocError>
-    ensures { IfOk result (λ text. text.items ≡ why_of state) }
+/// Why an entry is not whole; for a doubtful one this reason.
+fn why_of(alloc: Global, state: State, reason: &[u8]) -> Result<Vec<u8>, AllocError>
+    ensures { IfOk result (λ text. text.items ≡ why_of state reason.now) }
 {
     match state {
         State::Directory | State::Whole | State::Lost => Ok(Vec::new(alloc)),
-        State::DoubtfulDirectory => Vec::from_slice(alloc, DOUBTFUL_HEADER),
-        State::Doubtful { header, .. } => Vec::from_slice(alloc, doubt_of(header)),
+        State::DoubtfulDirectory | State::Doubtful { .. } => doubtful(alloc, reason),
         State::Broken { missing, cut, .. } => broken(alloc, missing, cut),
     }
 }
 
-/// Why a file of which no block is missing is doubtful.
-fn doubt_of(header: HeaderState) -> &'static [u8]
-    ensures { result.now ≡ doubt_of header }
+/// Why an entry is doubtful, as far as a comment has room for it.
+fn doubtful(alloc: Global, reason: &[u8]) -> Result<Vec<u8>, AllocError>
+    ensures { IfOk result (λ text. text.items ≡ doubtful_text reason.now) }
 {
-    match header {
-        HeaderState::Sound =>
-            b"doubtful: a block has a wrong checksum or field, or is in another file too",
-        HeaderState::Doubtful => DOUBTFUL_HEADER,
-        HeaderState::Gone =>
-            b"doubtful: its header is gone, and it is made of the blocks that name it",
-    }
+    let mut text = Vec::from_slice(alloc, b"doubtful: ")?;
+    text.extend_from_slice(&reason[..reason.len().min(69)])?;
+    Ok(text)
 }
-
-/// A file or directory is doubtful because of its header.
-const DOUBTFUL_HEADER: &[u8] = b"doubtful: its header has a wrong checksum or too long a comment";
 
 /// How much of a broken file is missing.
 fn broken(alloc: Global, missing: u32, cut: bool) -> Result<Vec<u8>, AllocError>

@@ -3,6 +3,7 @@ ghost use Rattle.std.specs.Prelude.{IfOk};
 ghost use Rattle.adf_import.specs.SavedLeft.{IsVolumeOf};
 
 use crate::bundle_put::with_head;
+use crate::given::Given;
 use crate::saved_fill::fill;
 use crate::saved_head::{boot_for, has_boot, has_head, head_of};
 use crate::saved_left::{LeftOut, left_entries};
@@ -12,7 +13,6 @@ use crate::saved_plan::SavedPlan;
 use adf_block::{Image, size_ok};
 use adf_record::BundleHead;
 use ados_name::Date3;
-use ados_salvage::Salvage;
 use ados_volume::{Volume, blank, check};
 use std::alloc::{AllocError, Global};
 
@@ -35,7 +35,7 @@ pub struct LeftEntry {
 }
 
 /// A new volume with the entries of a salvage: whole ones at their paths, others below `Damaged`, each with its bytes and its metadata.
-/// The comment of one that is not whole says why.
+/// The comment of one that is not whole says why: of a doubtful one in the words that are given.
 ///
 /// It has the kind of the image, its number of blocks, and its label, dates and boot block, if these are sound; without them it has the
 /// date `moment`. What is whole comes first, then what was found, then what is doubtful, then what is broken. What does not fit is
@@ -45,14 +45,15 @@ pub struct LeftEntry {
 /// a reason that holds. There is no volume if memory runs out, or if it is not so.
 pub fn volume_of_salvage(
     alloc: Global,
-    salvage: &Salvage,
+    given: Given<'_>,
     moment: Date3,
 ) -> Result<SavedVolume, AllocError>
-    ensures { IfOk result (λ saved. IsVolumeOf salvage.now moment saved.volume.image saved.own saved.left.items) }
+    ensures { IfOk result (λ saved. IsVolumeOf given moment saved.volume.image saved.own saved.left.items) }
 {
+    let salvage = given.salvage;
     let head = head_of(salvage.image(), moment);
     let plan = SavedPlan::of(alloc, salvage.entries())?;
-    let image = image_of(alloc, salvage, &plan, &head)?;
+    let image = image_of(alloc, given, &plan, &head)?;
     let Ok(mut volume) = check(alloc, image) else {
         return Err(AllocError);
     };
@@ -60,8 +61,8 @@ pub fn volume_of_salvage(
     if !is_headed || !has_boot(volume.image(), salvage) {
         return Err(AllocError);
     }
-    let looked = look_through(alloc, &mut volume, salvage, &plan)?;
-    let left = left_entries(alloc, &volume, salvage, &plan, &looked)?;
+    let looked = look_through(alloc, &mut volume, &given, &plan)?;
+    let left = left_entries(alloc, &volume, &given, &plan, &looked)?;
     let own = plan.own;
     Ok(SavedVolume { volume, own, left })
 }
@@ -69,7 +70,7 @@ pub fn volume_of_salvage(
 /// The image with the entries of a salvage and this head.
 fn image_of(
     alloc: Global,
-    salvage: &Salvage,
+    given: Given<'_>,
     plan: &SavedPlan,
     head: &BundleHead,
 ) -> Result<Image, AllocError> {
@@ -77,8 +78,8 @@ fn image_of(
         return Err(AllocError);
     }
     let mut volume = blank(alloc, head.format, head.blocks, head.label, head.created)?;
-    fill(alloc, &mut volume, salvage, &plan.items, head.changed)?;
-    match with_head(volume, head, boot_for(salvage)) {
+    fill(alloc, &mut volume, given, &plan.items, head.changed)?;
+    match with_head(volume, head, boot_for(given.salvage)) {
         Ok(image) => Ok(image),
         Err(_) => Err(AllocError),
     }

@@ -1,5 +1,5 @@
 -- Why entries are doubtful or cut short, with the block that shows it.
-use Rattle.std.specs.Prelude.{◌≡◌, ◌≢◌, ◌⊎◌, ℕ, ◌<◌, ◌==◌, ◌&&◌, ◌||◌, min, nat_lt, Bool, true, false, MatchOption, List, ◌++◌, codes, decimal, length, Option, Some, None, option_map, slice_index_or, ⊤}
+use Rattle.std.specs.Prelude.{◌≡◌, ◌≢◌, ◌⊎◌, ℕ, ◌<◌, ◌==◌, ◌&&◌, ◌||◌, min, nat_lt, Bool, true, false, MatchOption, List, [], ◌++◌, codes, decimal, length, Option, Some, None, option_map, slice_index_or, ⊤}
 use Rattle.std.specs.List.{AllZip}
 use Rattle.adf_block.specs.Fields.{format_of, own_key, parent_key, pointer, pointer_count, primary_type, secondary_type}
 use Rattle.adf_block.specs.Image.{block_count, block_sum, byte_at, long}
@@ -99,3 +99,13 @@ reason_text other Cut = codes "incomplete files may have at most four times the 
 
 abbrev pub reason_by : List ℕ → Option Doubt → Option (List ℕ)
 reason_by other doubt = option_map (reason_text other) doubt
+
+-- the reason in the comment of a new image: without the path of another entry, which is one of the host
+abbrev pub comment_text : Doubt → List ℕ
+comment_text (Shared block place) = codes "block " ++ decimal block ++ codes " is in another file too"
+comment_text doubt = reason_text [] doubt
+
+-- that for an entry; none if it is not doubtful
+abbrev pub comment_reason : Option Doubt → List ℕ
+comment_reason (Some doubt) = comment_text doubt
+comment_reason None = []

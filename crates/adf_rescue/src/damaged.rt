@@ -1,12 +1,12 @@
 //! What can be trusted in a damaged image, as files and directories of the host.
-ghost use Rattle.std.specs.Prelude.{◌≡◌, ◌<◌, ℕ, Bool, List, IfErr, IfOk, OnErr, length, ◌||◌};
+ghost use Rattle.std.specs.Prelude.{◌≡◌, ◌<◌, ℕ, Bool, List, IfErr, IfOk, OnErr, length, map, ◌||◌};
 ghost use Rattle.std.specs.String.{string_bytes};
 ghost use Rattle.adf_io.specs.Prefix.{Writes, WritesFrontOf};
 ghost use Rattle.ados_salvage.specs.Marks.{mark_at};
 ghost use Rattle.ados_salvage.specs.Holes.{SalvagesBeside};
 ghost use Rattle.ados_salvage.specs.Saved.{IsAt};
 ghost use Rattle.adf_rescue.specs.Missing.{values_at};
-ghost use Rattle.adf_rescue.specs.Reasons.{doubt_at};
+ghost use Rattle.adf_rescue.specs.Reasons.{comment_reason, doubt_at};
 ghost use Rattle.adf_rescue.specs.Rescue.{AreRescued, AreSomeRescued, IsRescue, IsRescueFault, count_line, rescue_line};
 ghost use Rattle.adf_rescue.specs.RescueObject.{is_summed, is_told, written};
 ghost use Rattle.adf_rescue.specs.Unaccounted.{WritesRuns};
@@ -14,7 +14,7 @@ ghost use Rattle.adf_text.specs.Ranges.{ranges};
 ghost use Rattle.adf_rescue.specs.steps.Reporting.{IsPart, rest_of};
 ghost use Rattle.adf_rescue.specs.steps.Writing.{IsOutput};
 
-use crate::doubt::Doubt;
+use crate::doubt::{Doubt, comment_reason};
 use crate::missing::{Run, missing_runs};
 use crate::missing_text::missing_text;
 use crate::plan::Plan;
@@ -187,6 +187,18 @@ impl Rescue {
             Some(doubt) => *doubt,
             None => None,
         }
+    }
+
+    /// For each entry, why it is doubtful, as the comment in a new image says it; nothing if it is not.
+    pub fn comment_reasons(&self, alloc: Global) -> Result<Vec<Vec<u8>>, AllocError>
+        ensures { IfOk result (λ reasons. map (λ text. text.items) reasons.items ≡ map comment_reason self.now.doubts.items) }
+    {
+        let mut reasons = Vec::with_capacity(alloc, self.doubts.len())?;
+        for doubt in self.doubts.iter() {
+            let reason = comment_reason(alloc, *doubt)?;
+            reasons.push(reason)?;
+        }
+        Ok(reasons)
     }
 
     /// The path of the entry that has a block too, if that is the doubt; else nothing. [`Doubt::reason`] names it.

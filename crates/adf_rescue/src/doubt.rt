@@ -1,7 +1,7 @@
 //! Why entries are doubtful or cut short.
 ghost use Rattle.std.specs.Prelude.{◌≡◌, IfOk};
 ghost use Rattle.std.specs.String.{string_bytes};
-ghost use Rattle.adf_rescue.specs.Reasons.{reason_text};
+ghost use Rattle.adf_rescue.specs.Reasons.{comment_reason, comment_text, reason_text};
 
 use std::alloc::{AllocError, Global};
 
@@ -58,6 +58,28 @@ impl Doubt {
             Doubt::Gone => String::from_str(alloc, GONE),
             Doubt::Cut => String::from_str(alloc, CUT),
         }
+    }
+
+    /// Why, as the comment in a new image says it. It has no path of the host.
+    fn in_comment(self, alloc: Global) -> Result<Vec<u8>, AllocError>
+        ensures { IfOk result (λ text. text.items ≡ comment_text self) }
+    {
+        if let Doubt::Shared(block, _) = self {
+            let text = format!(in alloc; "block {block} is in another file too")?;
+            return Vec::from_slice(alloc, text.as_bytes());
+        }
+        let text = self.reason(alloc, "")?;
+        Vec::from_slice(alloc, text.as_bytes())
+    }
+}
+
+/// Why an entry is doubtful, as the comment in a new image says it; nothing if it is not.
+pub(crate) fn comment_reason(alloc: Global, doubt: Option<Doubt>) -> Result<Vec<u8>, AllocError>
+    ensures { IfOk result (λ text. text.items ≡ comment_reason doubt) }
+{
+    match doubt {
+        Some(doubt) => doubt.in_comment(alloc),
+        None => Ok(Vec::new(alloc)),
     }
 }
 

@@ -2,11 +2,13 @@
 use Rattle.std.specs.Prelude.{◌≡◌, ◌==◌, ℕ, Bool, true, false, List, [], length, Option, Some, None, MatchOption, Result, Ok, Err, ⊤}
 use Rattle.adf_block.specs.Image.{block_count}
 use Rattle.ados_name.specs.declared.stamp.Date3.{Date3}
-use Rattle.ados_salvage.specs.Salvaged.{Saved}
 use Rattle.adf_import.specs.SavedLeft.{IsVolumeOf}
+use Rattle.adf_import.specs.declared.given.Given.{Given}
 use Rattle.adf_import.specs.declared.saved_names.OwnNames.{OwnNames}
 use Rattle.adf_import.specs.declared.saved_volume.LeftEntry.{LeftEntry}
+use Rattle.adf_rescue.specs.Reasons.{comment_reason}
 use Rattle.adf_rescue.specs.Rescue.{IsReport}
+use Rattle.adf_rescue.specs.declared.damaged.Rescue.{Rescue}
 use Rattle.adf_cli.specs.declared.query.SalvageJob.{SalvageJob}
 use Rattle.adf_serve.specs.declared.fault.CommandFault.{CommandFault}
 use Rattle.adf_serve.specs.declared.fault.CommandFault.TheVariants.{Extracted, LeftOut, Memory}
@@ -35,13 +37,20 @@ AreLacking job missing = job.image.blocks ≡ None → missing ≡ []
 abbrev pub AreHoles : SalvageJob → List ℕ → List Bool → Type 0
 AreHoles job image holes = (missing : List Bool) × AreLacking job missing × AreMarksOf job.bad (block_count image) missing holes
 
--- a new volume with everything of a salvage that can be there, and whether nothing is left out
-pub record IsMended (saved : Saved) (all : Bool) : Type 0 where
+-- the salvage of a rescue, and the reasons in the words of its report
+pub record IsOfRescue (rescue : Rescue) (given : Given) : Type 0 where
+  pub salvage : given.salvage.now ≡ rescue.salvage
+  pub reasons : map (λ text. text.items) given.reasons.now ≡ map comment_reason rescue.doubts.items
+
+-- a new volume with everything of a rescue that can be there, and whether nothing is left out
+pub record IsMended (rescue : Rescue) (all : Bool) : Type 0 where
   pub moment : Date3
+  pub given : Given
+  pub of_rescue : IsOfRescue rescue given
   pub image : List ℕ
   pub own : OwnNames
   pub left : List LeftEntry
-  pub made : IsVolumeOf saved moment image own left
+  pub made : IsVolumeOf given moment image own left
   pub is_all : all ≡ (length left == 0)
 
 -- the same where it may not be said whether nothing is left out

@@ -2,15 +2,16 @@
 ghost use Rattle.std.specs.Prelude.{◌≡◌, IfErr, IfOk, MatchOption, is_some, true};
 ghost use Rattle.ados_name.specs.declared.stamp.Date3.{Date3};
 ghost use Rattle.adf_import.specs.SavedLeft.{IsVolumeOf};
+ghost use Rattle.adf_import.specs.declared.given.Given.{Given as Told};
 ghost use Rattle.adf_serve.specs.Faults.{IsNoImage};
-ghost use Rattle.adf_serve.specs.Rescues.{IsMended};
+ghost use Rattle.adf_serve.specs.Rescues.{IsMended, IsOfRescue};
 
 use crate::changing::given_or_now;
 use crate::fault::CommandFault;
 use crate::images::{refuse_no_image, write_image};
 use adf_cli::SalvageJob;
 use adf_host::{HeldFile, PromptFiles, hold_target};
-use adf_import::{LeftEntry, LeftOut, SavedVolume, volume_of_salvage};
+use adf_import::{Given, LeftEntry, LeftOut, SavedVolume, volume_of_salvage};
 use adf_record::Grouped;
 use adf_rescue::Rescue;
 use adf_text::print_line;
@@ -56,7 +57,7 @@ pub(crate) fn write_out<'a, R: Files<File = File> + PromptFiles + Clock, F: Writ
     out: Option<NewFile<'a>>,
     faults: &mut F,
 ) -> Result<bool, CommandFault<'a>>
-    ensures mended { IfOk result (λ all. MatchOption out.entry (all ≡ true) (λ file. IsMended rescue.now.salvage all)) }
+    ensures mended { IfOk result (λ all. MatchOption out.entry (all ≡ true) (λ file. IsMended rescue.now all)) }
     ensures fault { IfErr result IsNoImage }
 {
     let Some(NewFile { path, held }) = out else {
@@ -74,11 +75,16 @@ fn saved_volume<'a, R: Clock>(
     alloc: Global,
     rescue: &Rescue,
 ) -> Result<SavedVolume, CommandFault<'a>>
-    ensures made { IfOk result (λ saved. (moment : Date3) × IsVolumeOf rescue.now.salvage moment saved.volume.image saved.own saved.left.items) }
+    ensures made { IfOk result (λ saved. (moment : Date3) × (given : Told) × IsOfRescue rescue.now given × IsVolumeOf given moment saved.volume.image saved.own saved.left.items) }
     ensures fault { IfErr result IsNoImage }
 {
     let moment = given_or_now(rt, None)?;
-    match volume_of_salvage(alloc, rescue.salvage(), moment) {
+    let reasons = rescue.comment_reasons(alloc)?;
+    let given = Given {
+        salvage: rescue.salvage(),
+        reasons: &reasons,
+    };
+    match volume_of_salvage(alloc, given, moment) {
         Ok(saved) => Ok(saved),
         Err(_) => Err(CommandFault::Memory),
     }

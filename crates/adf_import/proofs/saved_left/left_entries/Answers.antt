@@ -24,4 +24,4 @@ returns-clause-saved c = λ t s.
     all_saved t saved c.args.plan.now.own c.loop-place.left.items c.loop-place.place all (c.loop-place.invariant t s) (slice_get_within saved.entries)
 
 pub returns-clause-left : goal.returns-clause-left
-returns-clause-left c = λ t s. all_left t c.args.salvage.now c.args.plan.now.own c.loop-place.left.items c.loop-place.place (c.loop-place.invariant t s)
+returns-clause-left c = λ t s. all_left t c.args.given.now c.args.plan.now.own c.loop-place.left.items c.loop-place.place (c.loop-place.invariant t s)

@@ -10,7 +10,7 @@ returns c = λ t entry s at. (
   record {
     needs =
         c.new_file_blocks-needed.ensures t s
-        ∙ ap (λ (size : ℕ). 1 + block_cost t.format size) (c.size_of.ensures entry (get_or_from_slice_get c.args.salvage.now.entries c.args.place entry entry at));
+        ∙ ap (λ (size : ℕ). 1 + block_cost t.format size) (c.size_of.ensures entry (get_or_from_slice_get c.args.given.now.salvage.now.entries c.args.place entry entry at));
     has = c.free_blocks-free.ensures t s;
     less = omega arith;
   },

@@ -10,14 +10,14 @@ returns-then-is_root c = (
   λ t s. (
     c.in-Some.above,
     search rules,
-    root_is_at t c.args.salvage.now.entries c.args.own.now c.in-Some.above c.root.result (c.if-is_root.ensures.0 refl) (c.root.ensures.root t s),
+    root_is_at t c.args.given.now.salvage.now.entries c.args.own.now c.in-Some.above c.root.result (c.if-is_root.ensures.0 refl) (c.root.ensures.root t s),
   ),
 )
 
 pub returns-then-is_file : goal.returns-then-is_file
 returns-then-is_file c = λ t s.
-    let up : spot_above c.args.salvage.now.entries c.args.item.now.spot ≡ Some c.in-Some.above = search rules in
-    let o = c.in-Object.ensures c.args.volume.now.image c.args.salvage.now c.args.own.now c.requires in
+    let up : spot_above c.args.given.now.salvage.now.entries c.args.item.now.spot ≡ Some c.in-Some.above = search rules in
+    let o = c.in-Object.ensures c.args.volume.now.image c.args.given.now c.args.own.now c.requires in
     (c.in-Some.above, up, has_file c.in-Object.key (o.there t s) (sym (c.is_file.ensures.file t s) ∙ c.if-is_file.true))
 
 pub returns-else-is_file : goal.returns-else-is_file
@@ -33,6 +33,6 @@ returns-then-free_blocks-eq0 c = λ t s.
 
 pub returns-in-NoDirectory : goal.returns-in-NoDirectory
 returns-in-NoDirectory c = λ t s.
-    let up : spot_above c.args.salvage.now.entries c.args.item.now.spot ≡ Some c.in-Some.above = search rules in
-    let cut = c.in-NoDirectory.ensures c.args.volume.now.image c.args.salvage.now c.args.own.now c.requires t s in
+    let up : spot_above c.args.given.now.salvage.now.entries c.args.item.now.spot ≡ Some c.in-Some.above = search rules in
+    let cut = c.in-NoDirectory.ensures c.args.volume.now.image c.args.given.now c.args.own.now c.requires t s in
     (c.in-Some.above, up, has_none_above cut.1 cut.2)

@@ -7,7 +7,7 @@ use Rattle.adf_import.proofs.saved_look.path_of.Goals as goal
 
 pub returns-in-Directory-clause-there : goal.returns-in-Directory-clause-there
 returns-in-Directory-clause-there c =
-    let saved = c.args.salvage.now in
+    let saved = c.args.given.now in
     let own = c.args.own.now in
     let item = c.args.item.now in
     let named : IsNameAt saved.entries own item.spot item.name = subst (λ (es : List Salvaged). IsNameAt es own item.spot item.name) c.entries.ensures (c.in_ok-named.ensures c.if-not-named.false) in

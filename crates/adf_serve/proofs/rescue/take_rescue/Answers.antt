@@ -1,7 +1,7 @@
 use Rattle.adf_serve.specs.declared.fault.CommandFault.{CommandFault}
 use Rattle.std.proofs.Common.{◌≡◌, Bool, true, Option, None, Some, MatchOption, is_some}
 use Rattle.std.specs.Prelude.{⊤}
-use Rattle.ados_salvage.specs.Salvaged.{Saved}
+use Rattle.adf_rescue.specs.declared.damaged.Rescue.{Rescue}
 use Rattle.adf_cli.specs.declared.query.SalvageJob.{SalvageJob}
 use Rattle.adf_serve.specs.Rescues.{IsHostEnd, IsMended, IsMendedFor, IsRescueText, IsSomeSize, told_all}
 use Rattle.adf_serve.proofs.Printing.{host_ends, reports_no_image}
@@ -40,4 +40,4 @@ pub returns : goal.returns
 returns g c =
     let holes = c.in_ok-image.ensures.holes in
     c.tell_rescue.ensures c.in_ok-image.holes.items c.in_ok-image.image holes c.in_ok-rescue.ensures.told
-    (mended_for c.args.job.now c.in_ok-rescue.rescue.salvage c.in_ok-out.out c.in_ok-all.all c.in_ok-out.ensures.asked c.in_ok-all.ensures.mended)
+    (mended_for c.args.job.now c.in_ok-rescue.rescue c.in_ok-out.out c.in_ok-all.all c.in_ok-out.ensures.asked c.in_ok-all.ensures.mended)
