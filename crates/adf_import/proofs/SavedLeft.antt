@@ -59,11 +59,11 @@ module _ (image : List ℕ) (given : Given) (own : OwnNames) (t : Tree) (s : Sta
   saved_in place key entry at o = record { key = key; at_path = o.there t s; same = o.same t s refl entry at }
 
   -- what is at the path of an entry is what was found at another place
-  pub taken_by : (place key : ℕ) (entry : Salvaged) (looked : List Looked) (saved_here : Bool) → IsObjectAt image saved own (spot_of place entry) key saved_here → All (IsLooked image saved own) looked
-      → Any (IsOfOther (spot_of place entry) key) looked → (both : Bool) → (is_directory entry.state && not (is_file t key)) ≡ both → IsTaken t saved own (spot_of place entry) entry.state both
+  pub taken_by : (place key : ℕ) (entry : Salvaged) (looked : List Looked) (saved_here : Bool) → IsObjectAt image given own (spot_of place entry) key saved_here → All (IsLooked image given own) looked
+      → Any (IsOfOther (spot_of place entry) key) looked → (both : Bool) → (is_directory entry.state && not (is_file t key)) ≡ both → IsTaken t given own (spot_of place entry) entry.state both
   taken_by place key entry looked saved_here o all (k, other, inside, is, (apart, there)) both directories =
-      let known : IsLooked image saved own other = subst (IsLooked image saved own) is (all k other inside) in
-      let seen : IsObjectAt image saved own other.spot key true = subst (IsFoundAt image saved own other.spot) there known in
+      let known : IsLooked image given own other = subst (IsLooked image given own) is (all k other inside) in
+      let seen : IsObjectAt image given own other.spot key true = subst (IsFoundAt image given own other.spot) there known in
       record {
         key = key;
         at_path = o.there t s;

@@ -87,12 +87,12 @@ module _ (t : Tree) (entries : List Salvaged) (own : OwnNames) (name : List ℕ)
       record { path = here.path; spelled = record { rest = here.spelled.rest; old = here.spelled.old; all = here.spelled.all }; leads = here.leads }
 
 -- what a directory has under the name of a place is what is at the path of this place
-pub found_in : (image : List ℕ) (saved : Saved) (own : OwnNames) (spot : Spot) (dir : ℕ) (name : List ℕ) (there : AtPath) → HasDirectory image dir
-    → ((t : Tree) → Stands image t → (above : Spot) × (spot_above saved.entries spot ≡ Some above) × IsAtSpot t saved.entries own above dir) → IsNameAt saved.entries own spot name
-    → IsChildAt image saved spot dir name there → IsFoundAt image saved own spot there
-found_in image saved own spot dir name (paths.Object key has_all) directory at named its = record {
+pub found_in : (image : List ℕ) (given : Given) (own : OwnNames) (spot : Spot) (dir : ℕ) (name : List ℕ) (there : AtPath) → HasDirectory image dir
+    → ((t : Tree) → Stands image t → (above : Spot) × (spot_above given.salvage.now.entries spot ≡ Some above) × IsAtSpot t given.salvage.now.entries own above dir) → IsNameAt given.salvage.now.entries own spot name
+    → IsChildAt image given spot dir name there → IsFoundAt image given own spot there
+found_in image given own spot dir name (paths.Object key has_all) directory at named its = record {
   known = its.known;
-  there = λ t s. let above = at t s in step_down t saved.entries own name dir key (its.child t s) spot above.0 above.1 named above.2;
+  there = λ t s. let above = at t s in step_down t given.salvage.now.entries own name dir key (its.child t s) spot above.0 above.1 named above.2;
   same = its.same;
 }
 found_in image given own spot dir name paths.Nothing directory at named none = λ t s.

@@ -1,6 +1,6 @@
 //! Names and comments of the entries of a salvage in a new volume.
 ghost use Rattle.std.specs.Prelude.{◌≡◌, IfOk, take};
-ghost use Rattle.adf_import.specs.SavedNames.{broken_text, comment_for, doubt_of, joined, name_for, why_of};
+ghost use Rattle.adf_import.specs.SavedNames.{broken_text, comment_for, doubtful_text, joined, name_for, why_of};
 
 use crate::spots::is_whole;
 use ados_name::{Comment, Name, upper};

@@ -3,7 +3,7 @@ use Rattle.std.proofs.Common.{◌≡◌, ◌≢◌, ◌↔◌, ℕ, Bor, ◌⊎�
 use Rattle.std.specs.Io.KnownBytes.{Appends, Keeps}
 use Rattle.std.proofs.KnownBytes.{Keeps-refl}
 use Rattle.std.specs.Prelude.{⊤}
-use Rattle.ados_salvage.specs.Salvaged.{Saved}
+use Rattle.adf_rescue.specs.declared.damaged.Rescue.{Rescue}
 use Rattle.adf_cli.specs.declared.query.SalvageJob.{SalvageJob}
 use Rattle.ados_model.specs.Accepted.{Accepts, HandsBack, IsRefusal}
 use Rattle.ados_model.specs.Faults.{Shows}
@@ -551,19 +551,19 @@ module _ (job : WhereJob) (image : List ℕ) where
 
 -- a report on a rescue that does not say whether all is in the new image
 module _ (job : SalvageJob) (all : Option Bool) where
-  less_mended : (saved : Saved) (all : Option Bool) → IsMendedAs saved all → IsMendedAs saved None
-  less_mended saved (Some whole) mended = (whole, mended)
-  less_mended saved None mended = mended
+  less_mended : (rescue : Rescue) (all : Option Bool) → IsMendedAs rescue all → IsMendedAs rescue None
+  less_mended rescue (Some whole) mended = (whole, mended)
+  less_mended rescue None mended = mended
 
-  pub less_asked : (saved : Saved) → IsMendedFor job saved all → IsMendedFor job saved None
-  less_asked saved mended = go job.out mended
+  pub less_asked : (rescue : Rescue) → IsMendedFor job rescue all → IsMendedFor job rescue None
+  less_asked rescue mended = go job.out mended
     where
-      go : {Path : Type 0} (out : Option Path) → MatchOption out ⊤ (λ file. IsMendedAs saved all) → MatchOption out ⊤ (λ file. IsMendedAs saved None)
+      go : {Path : Type 0} (out : Option Path) → MatchOption out ⊤ (λ file. IsMendedAs rescue all) → MatchOption out ⊤ (λ file. IsMendedAs rescue None)
       go None mended = tt
-      go (Some file) mended = less_mended saved all mended
+      go (Some file) mended = less_mended rescue all mended
 
   pub less_told : (accepted : Bool) (text : List ℕ) → IsRescueText job all accepted text → IsRescueText job None accepted text
-  less_told accepted text (holes, image, are, report, mended) = (holes, image, are, report, less_asked report.rescue.salvage mended)
+  less_told accepted text (holes, image, are, report, mended) = (holes, image, are, report, less_asked report.rescue mended)
 
 -- a report on a rescue without memory for its text
 rescue_unsaid : (json : Bool) (job : SalvageJob) (all : Option Bool) (old new : Option (List ℕ))

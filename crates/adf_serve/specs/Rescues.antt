@@ -1,5 +1,5 @@
 -- How `extract --damaged` ends.
-use Rattle.std.specs.Prelude.{◌≡◌, ◌==◌, ℕ, Bool, true, false, List, [], length, Option, Some, None, MatchOption, Result, Ok, Err, ⊤}
+use Rattle.std.specs.Prelude.{◌≡◌, ◌==◌, ℕ, Bool, true, false, List, [], length, map, Option, Some, None, MatchOption, Result, Ok, Err, ⊤}
 use Rattle.adf_block.specs.Image.{block_count}
 use Rattle.ados_name.specs.declared.stamp.Date3.{Date3}
 use Rattle.adf_import.specs.SavedLeft.{IsVolumeOf}
@@ -54,18 +54,18 @@ pub record IsMended (rescue : Rescue) (all : Bool) : Type 0 where
   pub is_all : all ≡ (length left == 0)
 
 -- the same where it may not be said whether nothing is left out
-abbrev pub IsMendedAs : Saved → Option Bool → Type 0
-IsMendedAs saved (Some all) = IsMended saved all
-IsMendedAs saved None = (all : Bool) × IsMended saved all
+abbrev pub IsMendedAs : Rescue → Option Bool → Type 0
+IsMendedAs rescue (Some all) = IsMended rescue all
+IsMendedAs rescue None = (all : Bool) × IsMended rescue all
 
 -- if a new image is asked for, there is such a volume
-abbrev pub IsMendedFor : SalvageJob → Saved → Option Bool → Type 0
-IsMendedFor job saved all = MatchOption job.out ⊤ (λ file. IsMendedAs saved all)
+abbrev pub IsMendedFor : SalvageJob → Rescue → Option Bool → Type 0
+IsMendedFor job rescue all = MatchOption job.out ⊤ (λ file. IsMendedAs rescue all)
 
 -- the report on a rescue of an image that was accepted or not, as lines or as a JSON object, and the new volume of that rescue
 abbrev pub IsRescueText : SalvageJob → Option Bool → Bool → List ℕ → Type 0
 IsRescueText job all accepted text =
-    (holes : List Bool) × (image : List ℕ) × AreHoles job image holes × (report : IsReport job.json holes image accepted text) × IsMendedFor job report.rescue.salvage all
+    (holes : List Bool) × (image : List ℕ) × AreHoles job image holes × (report : IsReport job.json holes image accepted text) × IsMendedFor job report.rescue all
 
 -- whether a result says that the new image has all, or not all, that was saved
 abbrev pub told_all : Result (Unit {0}) CommandFault → Option Bool

@@ -119,7 +119,7 @@ fn tell_rescue<'a, W: Write, F: Write>(
     writer: &mut W,
     faults: &mut F,
 ) -> Result<(), CommandFault<'a>>
-    ensures { (holes : List Bool) (image : List ℕ) → AreHoles job.now image holes → IsRescue holes image rescue.now → IsMendedFor job.now rescue.now.salvage (Some all)
+    ensures { (holes : List Bool) (image : List ℕ) → AreHoles job.now image holes → IsRescue holes image rescue.now → IsMendedFor job.now rescue.now (Some all)
         → DoesRescue job.now (W.contents writer.old) (W.contents writer.new) result }
 {
     tell_sums(rescue, faults);

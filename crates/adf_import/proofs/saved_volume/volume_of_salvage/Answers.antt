@@ -7,8 +7,8 @@ use Rattle.adf_import.proofs.saved_volume.volume_of_salvage.Goals as goal
 
 pub left_entries-requires : goal.left_entries-requires
 left_entries-requires c =
-    subst (λ (v : Shown). All (IsLooked v.image c.args.salvage.now c.in_ok-plan.plan.own) c.deref.result.now) (sym c.in_ok-looked.ensures.same)
-    (subst (λ (xs : List Looked). All (IsLooked c.in-Ok.volume.image c.args.salvage.now c.in_ok-plan.plan.own) xs) (sym c.deref.ensures.value) c.in_ok-looked.ensures.looked)
+    subst (λ (v : Shown). All (IsLooked v.image c.args.given c.in_ok-plan.plan.own) c.deref.result.now) (sym c.in_ok-looked.ensures.same)
+    (subst (λ (xs : List Looked). All (IsLooked c.in-Ok.volume.image c.args.given c.in_ok-plan.plan.own) xs) (sym c.deref.ensures.value) c.in_ok-looked.ensures.looked)
 
 pub returns : goal.returns
 returns c =
@@ -23,5 +23,5 @@ returns c =
             subst (λ (i : List ℕ). IsHeadFor i c.args.moment c.head_of-head.result) c.image.ensures.image c.head_of-head.ensures,
             c.in_ok-is_headed.ensures t before c.if-not-is_headed.false,
           );
-      boot = subst (HasBootOf c.args.salvage.now) same (c.if-not-has_boot.ensures refl);
+      boot = subst (HasBootOf c.args.given.salvage.now) same (c.if-not-has_boot.ensures refl);
     }

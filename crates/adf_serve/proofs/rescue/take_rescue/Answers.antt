@@ -26,12 +26,12 @@ returns-in_err-all g c =
     c.from_residual-in_err-all.ensures.1
 
 -- if a file is held for it, there is a new volume
-mended_for : {Held : Type 0} (job : SalvageJob) (saved : Saved) (out : Option Held) (all : Bool) → is_some out ≡ is_some job.out → MatchOption out (all ≡ true) (λ file. IsMended saved all)
-    → IsMendedFor job saved (Some all)
-mended_for job saved out all asked made = go out job.out asked made
+mended_for : {Held : Type 0} (job : SalvageJob) (rescue : Rescue) (out : Option Held) (all : Bool) → is_some out ≡ is_some job.out → MatchOption out (all ≡ true) (λ file. IsMended rescue all)
+    → IsMendedFor job rescue (Some all)
+mended_for job rescue out all asked made = go out job.out asked made
   where
-    go : {Held Path : Type 0} (out : Option Held) (path : Option Path) → is_some out ≡ is_some path → MatchOption out (all ≡ true) (λ file. IsMended saved all)
-        → MatchOption path ⊤ (λ file. IsMended saved all)
+    go : {Held Path : Type 0} (out : Option Held) (path : Option Path) → is_some out ≡ is_some path → MatchOption out (all ≡ true) (λ file. IsMended rescue all)
+        → MatchOption path ⊤ (λ file. IsMended rescue all)
     go out None asked made = tt
     go (Some held) (Some path) asked made = made
     go None (Some path) asked made = absurd (cc asked)

@@ -11,5 +11,5 @@ returns-clause-mended g c =
     let saved = c.in_ok-saved.saved in
     let made = c.in_ok-saved.ensures.made in
     let is_all : c.is_empty.result ≡ (length saved.left.items == 0) = search rules in
-    let mended : IsMended c.args.rescue.now.salvage c.is_empty.result = record { moment = made.0; image = saved.volume.image; own = saved.own; left = saved.left.items; made = made.1; is_all = is_all } in
-    at_some c.args.out c.in-Some.field-0 (c.is_empty.result ≡ true) (IsMended c.args.rescue.now.salvage c.is_empty.result) c.in-Some.is mended
+    let mended : IsMended c.args.rescue.now c.is_empty.result = record { moment = made.0; given = made.1; of_rescue = made.2; image = saved.volume.image; own = saved.own; left = saved.left.items; made = made.3; is_all = is_all } in
+    at_some c.args.out c.in-Some.field-0 (c.is_empty.result ≡ true) (IsMended c.args.rescue.now c.is_empty.result) c.in-Some.is mended
