@@ -415,7 +415,7 @@ def drawn_images(room: Room) -> None:
 
 
 def main(words: List[str]) -> int:
-    rules = (sound, label_and_dates, not_whole, long_comments, doubtful_directory, found_entries, own_names, full, no_directory, same_names, same_directories, targets)
+    rules = (sound, label_and_dates, not_whole, long_comments, shared_block, doubtful_directory, found_entries, own_names, full, no_directory, same_names, same_directories, targets)
     return try_all(words, Room, *rules, drawn_images)
 
 
