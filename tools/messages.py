@@ -61,7 +61,7 @@ PARTS = [
 
 # A pattern of texts, and what to do.
 ADVICE: List[Tuple[str, str]] = [
-    (r"in the new image|has its name there|its directory is not there|there is no room|not as it was to be|read back", "`extract --damaged --to` writes it to the host"),
+    (r"in the new image|has its name there|its directory is not there|there is no room", "`extract --damaged --to` writes it to the host"),
     (r"is \{word\}: |^its header |^block \{block\} (has a wrong|could not be read|is in)|comment in its header", "Compare it with another copy; the files that are `whole` are as they were"),
     (r"(is|are) missing \(data|\{missing\}$", "Look for another copy: zeros stand for these bytes"),
     (r"most of a list of names", "Check the files in several lists, or name their directory"),
@@ -158,8 +158,7 @@ NEVER = {"a script is faulty", "an image is refused", "an image is not checked",
 OF_OUTPUT = ("refused {", "suspect block {", "bitmap block {i}", "data {k} of", "extension {k} of", "adf_serve {VERSION}")
 # A pattern of texts, and the exit status that follows, where it is another than that of the part.
 STATUSES: List[Tuple[str, str]] = [
-    (r"in the new image|has its name there|its directory is not there|there is no room|read back", "3"),
-    (r"not as it was to be", "2"),
+    (r"in the new image|has its name there|its directory is not there|there is no room", "3"),
     (r"have no checksums|read as \{read\}|neither OFS|^(OFS|FFS)$", ""),
     (r"waiting for|turned round|skipped|mounted or being|is \{word\}: |^its header |^block \{block\} (has a wrong|could not be read|is in)|comment in its header|missing \(data|incomplete files may|belong to no reported|it is a (symbolic|note)|it is neither", ""),
     (r"lists the blocks of one image", "1"),

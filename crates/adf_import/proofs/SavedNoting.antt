@@ -7,7 +7,8 @@ use Rattle.ados_salvage.specs.Saved.{IsAt}
 use Rattle.ados_salvage.specs.declared.salvaged.Salvaged.{Salvaged}
 use Rattle.adf_import.specs.SavedNames.{comment_for, name_for}
 use Rattle.adf_import.specs.SavedVolume.{HasNoteOf, HoldsSaved}
-use Rattle.adf_import.specs.steps.Spots.{IsNoteOf, IsSavedAt}
+use Rattle.adf_import.specs.SavedLeft.{IsSavedAt}
+use Rattle.adf_import.specs.steps.Spots.{IsNoteOf}
 
 -- what is told of an object is what its node has
 pub note_there : (t : Tree) (key : ℕ) (entry : Salvaged) (told : FileInfo) (node : Node) → t.nodes key ≡ Some node → told ≡ file_info t.format key node

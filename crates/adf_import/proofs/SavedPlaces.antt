@@ -1,6 +1,7 @@
 -- Paths of places in a new volume, and what is found there.
-use Rattle.std.proofs.Common.{◌≡◌, ℕ, Bool, true, false, List, [], ◌∷◌, ◌++◌, Option, Some, None, IfSome, option_map, slice_get, refl, sym, ap, ◌∙◌, subst, append_assoc, append-nil}
-use Rattle.adf_import.proofs.Common.{Tree, child_of, root}
+use Rattle.std.proofs.Common.{◌≡◌, ℕ, Bool, true, false, List, [], ◌∷◌, ◌++◌, Option, Some, None, option_map, slice_get, refl, sym, ap, ◌∙◌, subst, append_assoc, append-nil}
+use Rattle.adf_import.proofs.Common.{HasDirectory, Stands, Tree, child_of, root}
+use Rattle.ados_salvage.specs.Salvaged.{Saved}
 use Rattle.ados_salvage.specs.declared.salvaged.Salvaged.{Salvaged}
 use Rattle.adf_import.specs.SavedNames.{name_for}
 use Rattle.adf_import.specs.SavedVolume.{IsAtSpot, IsPathOf, IsSpotPath, LeadsTo, front_for}
@@ -8,7 +9,10 @@ use Rattle.adf_import.specs.SavedVolume.IsPathOf.{top, below}
 use Rattle.adf_import.specs.SavedVolume.LeadsTo.{at_root, child}
 use Rattle.adf_import.specs.declared.saved_names.OwnNames.{OwnNames}
 use Rattle.adf_import.specs.declared.spots.Spot.{Spot}
-use Rattle.adf_import.specs.steps.Spots.{IsNameAt, IsNameIn, above_in, root_spot, spot_above, spot_with}
+use Rattle.adf_import.specs.SavedLeft.{IsNameAt, IsNameIn, above_in, root_spot, spot_above, spot_with}
+use Rattle.adf_import.specs.declared.saved_look.AtPath.{AtPath}
+use Rattle.adf_import.specs.declared.saved_look.AtPath.TheVariants as paths
+use Rattle.adf_import.specs.steps.Spots.{IsChildAt, IsFoundAt}
 
 -- the path of no entry is empty
 no_path : (entries : List Salvaged) (o : Option ℕ) (path : List (List ℕ)) → IsPathOf entries o path → o ≡ None → path ≡ []
@@ -82,7 +86,17 @@ module _ (t : Tree) (entries : List Salvaged) (own : OwnNames) (name : List ℕ)
       let here = step_in at.damaged at.found at.entry above up named there in
       record { path = here.path; spelled = record { rest = here.spelled.rest; old = here.spelled.old; all = here.spelled.all }; leads = here.leads }
 
--- what holds of the value that there is holds if there is one
-pub if_some : {X : Type 0} (P : X → Type 0) (o : Option X) → ((x : X) → o ≡ Some x → P x) → IfSome o P
-if_some P None h = tt
-if_some P (Some x) h = h x refl
+-- what a directory has under the name of a place is what is at the path of this place
+pub found_in : (image : List ℕ) (saved : Saved) (own : OwnNames) (spot : Spot) (dir : ℕ) (name : List ℕ) (there : AtPath) → HasDirectory image dir
+    → ((t : Tree) → Stands image t → (above : Spot) × (spot_above saved.entries spot ≡ Some above) × IsAtSpot t saved.entries own above dir) → IsNameAt saved.entries own spot name
+    → IsChildAt image saved spot dir name there → IsFoundAt image saved own spot there
+found_in image saved own spot dir name (paths.Object key has_all) directory at named child = record {
+  known = child.known;
+  there = λ t s. let above = at t s in step_down t saved.entries own name dir key (child.child t s) spot above.0 above.1 named above.2;
+  same = child.same;
+}
+found_in image saved own spot dir name paths.Nothing directory at named none = λ t s.
+    let above = at t s in
+    record { above = above.0; up = above.1; dir = dir; at_path = above.2; directory = directory t s; name = name; named = named; none = none t s }
+found_in image saved own spot dir name paths.NoDirectory directory at named never = absurd never
+found_in image saved own spot dir name paths.Unknown directory at named never = absurd never

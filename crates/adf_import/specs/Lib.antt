@@ -13,4 +13,5 @@ pub mod Commands
 pub mod Progress
 pub mod SavedNames
 pub mod SavedVolume
+pub mod SavedLeft
 pub mod steps

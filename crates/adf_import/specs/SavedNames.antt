@@ -11,9 +11,9 @@ use Rattle.ados_salvage.specs.declared.salvaged.State.TheVariants as states
 abbrev pub own_name : Salvaged → List ℕ
 own_name entry = ended entry.name entry.header entry.endings
 
--- its endings alone
+-- its endings alone, of which no more than 30 bytes stay
 abbrev pub own_ending : Salvaged → List ℕ
-own_ending entry = drop (length entry.name) (own_name entry)
+own_ending entry = take 30 (drop (length entry.name) (own_name entry))
 
 -- the name in the new volume: a name has at most 30 bytes, so bytes before the endings are cut
 abbrev pub name_for : Salvaged → List ℕ

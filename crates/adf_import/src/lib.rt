@@ -45,6 +45,6 @@ pub use name_why::{NameWhy, wrong_name};
 pub use new_file::{NewFile, NotPut, put_file, replace_file};
 pub use one_file::StandardInput;
 pub use prune::{delete_all, denied_entry};
-pub use saved_fill::LeftOut;
+pub use saved_left::LeftOut;
 pub use saved_names::OwnNames;
-pub use saved_volume::{LeftEntry, NotSaved, SavedVolume, volume_of_salvage};
+pub use saved_volume::{LeftEntry, SavedVolume, volume_of_salvage};

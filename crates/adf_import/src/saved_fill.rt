@@ -3,31 +3,17 @@ ghost use Rattle.std.specs.Prelude.{OnOk};
 ghost use Rattle.adf_import.specs.Progress.{Advances, IsReady};
 
 use crate::host_files::without_note;
-use crate::new_file::{NewFile, NotPut, put_file};
+use crate::new_file::{NewFile, put_file};
 use crate::progress::Progress;
 use crate::put::enter_directory;
 use crate::saved_names::comment_for;
 use crate::saved_plan::SavedItem;
+use crate::spots::is_directory;
 use adf_text::Uaem;
 use ados_name::{Comment, Date3, Name};
-use ados_salvage::{Salvage, State};
+use ados_salvage::Salvage;
 use ados_volume::Volume;
 use std::alloc::{AllocError, Global};
-
-/// Why an entry is left out of a new volume.
-#[derive(Clone, Copy, PartialEq, Eq)]
-pub enum LeftOut {
-    /// It needs this many blocks, and this many are free.
-    NoRoom { needed: u64, free: u32 },
-    /// An entry of its directory has the name.
-    Taken,
-    /// It is a directory, and another one of that name is there, which has the files of both.
-    Joined,
-    /// Its directory is left out.
-    NoDirectory,
-    /// It is not there as it was saved.
-    Unlike,
-}
 
 /// What is put into a new volume, and with which time stamp.
 #[derive(Drop)]
@@ -37,7 +23,7 @@ struct Filling<'a> {
     moment: Date3,
 }
 
-/// Puts items of a salvage into a volume. The result has for each why it is left out, if it is. Metadata of directories is set
+/// Puts items of a salvage into a volume, as far as there is room and no other item has the name. Metadata of directories is set
 /// last, because each entry put into a directory sets its date.
 pub(crate) fn fill(
     alloc: Global,
@@ -45,7 +31,7 @@ pub(crate) fn fill(
     salvage: &Salvage,
     items: &[SavedItem],
     moment: Date3,
-) -> Result<Vec<Option<LeftOut>>, AllocError> {
+) -> Result<(), AllocError> {
     let filling = Filling {
         alloc,
         salvage,
@@ -53,27 +39,28 @@ pub(crate) fn fill(
     };
     let top = volume.root();
     let mut progress = Progress::new(alloc, volume.image().blocks())?;
-    let mut left = Vec::with_capacity(alloc, items.len())?;
+    let mut there = Vec::with_capacity(alloc, items.len())?;
     for item in items {
-        let is_gone = is_gone(&left, item.above);
+        let is_gone = is_gone(&there, item.above);
         let dir = progress.directory(item.above, top);
-        let fate = filling.put_or_leave(volume, dir, item, is_gone, &mut progress)?;
-        left.push(fate)?;
+        let is_there = filling.put_or_leave(volume, dir, item, is_gone, &mut progress)?;
+        there.push(is_there)?;
     }
     progress.note_directories(volume, moment);
-    Ok(left)
+    Ok(())
 }
 
 /// Whether the directory at a position is not there.
-fn is_gone(left: &[Option<LeftOut>], above: Option<usize>) -> bool {
-    match above.and_then(|place| left.get(place).copied().flatten()) {
-        None | Some(LeftOut::Joined) => false,
-        Some(_) => true,
+fn is_gone(there: &[bool], above: Option<usize>) -> bool {
+    match above.and_then(|place| there.get(place).copied()) {
+        Some(is_there) => !is_there,
+        None => false,
     }
 }
 
 impl Filling<'_> {
-    /// Puts an item into a directory, unless the directory that it should be in is gone. The result is why it is left out, if it is.
+    /// Puts an item into a directory, unless the directory that it should be in is gone. Returns whether it is there: a new file, or a
+    /// directory with its name.
     fn put_or_leave(
         &self,
         volume: &mut Volume,
@@ -81,13 +68,13 @@ impl Filling<'_> {
         item: &SavedItem,
         is_gone: bool,
         progress: &mut Progress,
-    ) -> Result<Option<LeftOut>, AllocError>
+    ) -> Result<bool, AllocError>
         requires { IsReady volume.old.image dir progress.old }
         ensures { OnOk result (Advances volume.old.image volume.new.image progress.new) }
     {
         if is_gone {
             progress.push(dir, dir)?;
-            return Ok(Some(LeftOut::NoDirectory));
+            return Ok(false);
         }
         match item.spot.entry {
             Some(place) if self.is_file(place) => self.put_as_file(
@@ -100,7 +87,7 @@ impl Filling<'_> {
     /// Whether the entry at a position is a file.
     fn is_file(&self, place: usize) -> bool {
         match self.salvage.entries().get(place) {
-            Some(entry) => !matches!(entry.state, State::Directory | State::DoubtfulDirectory),
+            Some(entry) => !is_directory(entry.state),
             None => false,
         }
     }
@@ -113,7 +100,7 @@ impl Filling<'_> {
         item: &SavedItem,
         place: usize,
         progress: &mut Progress,
-    ) -> Result<Option<LeftOut>, AllocError>
+    ) -> Result<bool, AllocError>
         requires { IsReady volume.old.image dir progress.old }
         ensures { OnOk result (Advances volume.old.image volume.new.image progress.new) }
     {
@@ -136,18 +123,18 @@ impl Filling<'_> {
         name: Name,
         file: &NewFile<'_>,
         progress: &mut Progress,
-    ) -> Result<Option<LeftOut>, AllocError>
+    ) -> Result<bool, AllocError>
         requires { IsReady volume.old.image dir progress.old }
         ensures { OnOk result (Advances volume.old.image volume.new.image progress.new) }
     {
         match put_file(volume, dir, name, file, false, self.moment) {
             Ok(key) => {
                 progress.push(key, dir)?;
-                Ok(None)
+                Ok(true)
             }
-            Err(fault) => {
+            Err(_) => {
                 progress.push(dir, dir)?;
-                Ok(Some(left_out(fault)))
+                Ok(false)
             }
         }
     }
@@ -159,7 +146,7 @@ impl Filling<'_> {
         dir: u32,
         item: &SavedItem,
         progress: &mut Progress,
-    ) -> Result<Option<LeftOut>, AllocError>
+    ) -> Result<bool, AllocError>
         requires { IsReady volume.old.image dir progress.old }
         ensures { OnOk result (Advances volume.old.image volume.new.image progress.new) }
     {
@@ -168,14 +155,14 @@ impl Filling<'_> {
             Ok(entered) => {
                 if entered.is_new {
                     progress.push_made(entered.key, noted)?;
-                    return Ok(None);
+                    return Ok(true);
                 }
                 progress.push(entered.key, entered.key)?;
-                Ok(Some(LeftOut::Joined))
+                Ok(true)
             }
-            Err(fault) => {
+            Err(_) => {
                 progress.push(dir, dir)?;
-                Ok(Some(left_out(fault)))
+                Ok(false)
             }
         }
     }
@@ -201,13 +188,5 @@ impl Filling<'_> {
             }
             None => Ok(without_note(self.moment)),
         }
-    }
-}
-
-/// Why a file or directory is left out that was not put.
-fn left_out(fault: NotPut) -> LeftOut {
-    match fault {
-        NotPut::NoRoom { needed, free } => LeftOut::NoRoom { needed, free },
-        NotPut::Refused(_) => LeftOut::Taken,
     }
 }

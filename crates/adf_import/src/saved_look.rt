@@ -1,29 +1,52 @@
 //! A new volume, looked through for the entries of a salvage.
-ghost use Rattle.std.specs.Prelude.{◌≡◌, ◌<◌, All, Contains, IfOk, IfSome, IsTrue, Some, length};
+ghost use Rattle.std.specs.Prelude.{◌≡◌, ℕ, ◌<◌, All, IfOk, IsTrue, List, length};
 ghost use Rattle.ados_model.specs.Keys.{HasDirectory, HasKey};
 ghost use Rattle.ados_model.specs.Stands.{Stands};
 ghost use Rattle.ados_model.specs.Tree.{Tree, content_at};
 ghost use Rattle.ados_salvage.specs.declared.salvaged.Salvaged.{Salvaged as Entry};
+ghost use Rattle.ados_salvage.specs.Salvaged.{Saved};
 ghost use Rattle.ados_salvage.specs.Saved.{IsAt};
-ghost use Rattle.adf_import.specs.SavedVolume.{HasNoteOf, HoldsSaved, IsAtSpot, IsSavedFile};
-ghost use Rattle.adf_import.specs.steps.Spots.{IsLooked, IsNameAt, IsNoteOf, IsSavedAt, spot_above};
+ghost use Rattle.adf_import.specs.SavedLeft.{IsNameAt, IsSavedAt};
+ghost use Rattle.adf_import.specs.SavedVolume.{HasNoteOf, HoldsSaved, IsSavedFile};
+ghost use Rattle.adf_import.specs.declared.saved_names.OwnNames.{OwnNames as Own};
+ghost use Rattle.adf_import.specs.steps.Spots.{IsAboveAt, IsChildAt, IsFoundAt, IsLooked, IsNoteOf};
 
 use crate::saved_names::{OwnNames, comment_for, name_for};
 use crate::saved_plan::{SavedItem, SavedPlan};
 use crate::spots::Spot;
 use ados_model::FileInfo;
 use ados_salvage::{Salvage, Salvaged, State};
-use ados_volume::{Volume, read_file};
+use ados_volume::{Volume, free_blocks, read_file};
 use std::alloc::{AllocError, Global};
 
-/// What is at the path of an item.
+/// An item, and what was found at its path.
 #[derive(Clone, Copy)]
 pub(crate) struct Looked {
     pub spot: Spot,
-    /// The key of the object.
-    pub key: Option<u32>,
-    /// Whether it is the entry with all that was saved of it.
-    pub saved: bool,
+    pub there: AtPath,
+}
+
+/// What is at the path of an item.
+#[derive(Clone, Copy, PartialEq, Eq)]
+pub(crate) enum AtPath {
+    /// An object, and whether it is the entry with all that was saved of it.
+    Object { key: u32, saved: bool },
+    /// Nothing, in a directory that is there.
+    Nothing,
+    /// Its directory is not there, and cannot be.
+    NoDirectory,
+    /// It was not looked up.
+    Unknown,
+}
+
+/// What is at the path of the directory of an item.
+#[derive(Clone, Copy)]
+pub(crate) enum Above {
+    Directory(u32),
+    /// No directory, and there cannot be one.
+    Missing,
+    /// It was not looked up.
+    Unknown,
 }
 
 /// Looks the items of a salvage up in a volume, in their order.
@@ -58,35 +81,52 @@ fn look_up(
     ensures same { volume.new ≡ volume.old }
 {
     let spot = item.spot;
-    let key = key_at(alloc, volume, salvage, own, looked, item)?;
-    let saved = match key {
-        Some(key) => is_saved(alloc, volume, salvage, spot, key)?,
-        None => false,
-    };
-    Ok(Looked { spot, key, saved })
+    let there = path_of(alloc, volume, salvage, own, looked, item)?;
+    Ok(Looked { spot, there })
 }
 
-/// The object at the path of an item, if the items before it have its directory.
-fn key_at(
+/// What is at the path of an item, if the items before it have its directory.
+fn path_of(
     alloc: Global,
     volume: &mut Volume,
     salvage: &Salvage,
     own: &OwnNames,
     looked: &[Looked],
     item: &SavedItem,
-) -> Result<Option<u32>, AllocError>
+) -> Result<AtPath, AllocError>
     requires { All (IsLooked volume.old.image salvage.now own.now) looked.now }
-    ensures path { IfOk result (λ key. IfSome key (λ key. (t : Tree) → Stands volume.old.image t → IsAtSpot t salvage.now.entries own.now item.now.spot key)) }
-    ensures key { IfOk result (λ key. IfSome key (HasKey volume.old.image)) }
+    ensures there { IfOk result (IsFoundAt volume.old.image salvage.now own.now item.now.spot) }
     ensures same { volume.new ≡ volume.old }
 {
     let named = is_named(alloc, salvage.entries(), own, item)?;
     if !named {
-        return Ok(None);
+        return Ok(AtPath::Unknown);
     }
     match directory_at(volume, salvage, own, looked, item) {
-        Some(dir) => Ok(volume.child(dir, &item.name)),
-        None => Ok(None),
+        Above::Directory(dir) => child_at(alloc, volume, salvage, item, dir),
+        Above::Missing => Ok(AtPath::NoDirectory),
+        Above::Unknown => Ok(AtPath::Unknown),
+    }
+}
+
+/// What a directory has under the name of an item.
+fn child_at(
+    alloc: Global,
+    volume: &mut Volume,
+    salvage: &Salvage,
+    item: &SavedItem,
+    dir: u32,
+) -> Result<AtPath, AllocError>
+    requires { HasDirectory volume.old.image dir }
+    ensures there { IfOk result (IsChildAt volume.old.image salvage.now item.now.spot dir item.now.name) }
+    ensures same { volume.new ≡ volume.old }
+{
+    match volume.child(dir, &item.name) {
+        Some(key) => {
+            let saved = is_saved(alloc, volume, salvage, item.spot, key)?;
+            Ok(AtPath::Object { key, saved })
+        }
+        None => Ok(AtPath::Nothing),
     }
 }
 
@@ -124,41 +164,57 @@ fn directory_at(
     own: &OwnNames,
     looked: &[Looked],
     item: &SavedItem,
-) -> Option<u32>
+) -> Above
     requires { All (IsLooked volume.now.image salvage.now own.now) looked.now }
-    ensures directory { IfSome result (HasDirectory volume.now.image) }
-    ensures path { IfSome result (λ dir. (t : Tree) → Stands volume.now.image t
-        → (above : Spot) × (spot_above salvage.now.entries item.now.spot ≡ Some above) × IsAtSpot t salvage.now.entries own.now above dir) }
+    ensures { IsAboveAt volume.now.image salvage.now own.now item.now.spot result }
 {
-    let above = item.spot.above(salvage.entries())?;
+    let Some(above) = item.spot.above(salvage.entries()) else {
+        return Above::Unknown;
+    };
     if above.is_root() {
-        return Some(volume.root());
+        return Above::Directory(volume.root());
     }
-    let key = looked_key(looked, item.above?, above)?;
-    directory_key(volume, key)
+    match looked_at(looked, item.above, above) {
+        AtPath::Object { key, .. } => {
+            if volume.is_file(key) {
+                return Above::Missing;
+            }
+            Above::Directory(key)
+        }
+        AtPath::Nothing => {
+            if free_blocks(volume) == 0 {
+                return Above::Missing;
+            }
+            Above::Unknown
+        }
+        AtPath::NoDirectory => Above::Missing,
+        AtPath::Unknown => Above::Unknown,
+    }
 }
 
-/// The object that was found for the item at a position, if that item is for this place.
-fn looked_key(looked: &[Looked], item: usize, spot: Spot) -> Option<u32>
-    ensures { IfSome result (λ key. (found : Looked) × Contains looked.now found × (found.spot ≡ spot) × (found.key ≡ Some key)) }
+/// What was found for the item at a position, if that item is for this place.
+pub(crate) fn looked_at(looked: &[Looked], item: Option<usize>, spot: Spot) -> AtPath
+    ensures { (image : List ℕ) (saved : Saved) (own : Own) → All (IsLooked image saved own) looked.now → IsFoundAt image saved own spot result }
 {
-    let found = looked.get(item)?;
-    if found.spot != spot {
-        return None;
+    let Some(item) = item else {
+        return AtPath::Unknown;
+    };
+    match looked.get(item) {
+        Some(found) => found.at(spot),
+        None => AtPath::Unknown,
     }
-    found.key
 }
 
-/// The key of an object, if it is a directory.
-fn directory_key(volume: &Volume, key: u32) -> Option<u32>
-    requires { HasKey volume.now.image key }
-    ensures same { IfSome result (λ dir. dir ≡ key) }
-    ensures directory { IfSome result (HasDirectory volume.now.image) }
-{
-    if volume.is_file(key) {
-        return None;
+impl Looked {
+    /// What was found, if it is for this place.
+    fn at(&self, spot: Spot) -> AtPath
+        ensures { (image : List ℕ) (saved : Saved) (own : Own) → IsLooked image saved own self.now → IsFoundAt image saved own spot result }
+    {
+        if self.spot != spot {
+            return AtPath::Unknown;
+        }
+        self.there
     }
-    Some(key)
 }
 
 /// Whether an object has everything that was saved of the entry at a place.

@@ -64,13 +64,14 @@ fn upper_case(alloc: Global, text: &[u8]) -> Result<Vec<u8>, AllocError> {
 }
 
 /// The name of an entry in the new volume: its name in its directory. If that is longer than a name, bytes before its endings are
-/// cut.
+/// cut, and then the last of these.
 pub(crate) fn name_for(alloc: Global, entry: &Salvaged) -> Result<Vec<u8>, AllocError>
     ensures { IfOk result (λ name. name.items ≡ name_for entry.now) }
 {
     let own = entry.own_name(alloc)?;
     let name = entry.name.bytes();
-    let ending = &own[name.len().min(own.len())..];
+    let endings = &own[name.len().min(own.len())..];
+    let ending = &endings[..endings.len().min(Name::MAX_LEN)];
     let front = name.len().min(Name::MAX_LEN.saturating_sub(ending.len()));
     let mut text = Vec::from_slice(alloc, &name[..front])?;
     text.extend_from_slice(ending)?;

@@ -1,13 +1,11 @@
 //! A new volume with what was saved of a damaged image.
 ghost use Rattle.std.specs.Prelude.{IfOk};
-ghost use Rattle.ados_model.specs.Stands.{Stands};
-ghost use Rattle.ados_model.specs.Tree.{Tree};
-ghost use Rattle.adf_import.specs.SavedVolume.{AreSaved, HasBootOf, HasHeadFor};
+ghost use Rattle.adf_import.specs.SavedLeft.{IsVolumeOf};
 
 use crate::bundle_put::with_head;
-use crate::saved_fill::{LeftOut, fill};
+use crate::saved_fill::fill;
 use crate::saved_head::{boot_for, has_boot, has_head, head_of};
-use crate::saved_left::left_entries;
+use crate::saved_left::{LeftOut, left_entries};
 use crate::saved_look::look_through;
 use crate::saved_names::OwnNames;
 use crate::saved_plan::SavedPlan;
@@ -16,7 +14,7 @@ use adf_record::BundleHead;
 use ados_name::Date3;
 use ados_salvage::Salvage;
 use ados_volume::{Volume, blank, check};
-use std::alloc::{AllocError, AllocFailed, Global};
+use std::alloc::{AllocError, Global};
 
 /// A new volume with what was saved of a damaged image.
 #[derive(Drop)]
@@ -36,14 +34,6 @@ pub struct LeftEntry {
     pub why: LeftOut,
 }
 
-/// Why there is no new volume.
-#[derive(Clone, Copy)]
-pub enum NotSaved {
-    Memory,
-    /// It is not as it was planned.
-    Unlike,
-}
-
 /// A new volume with the entries of a salvage: whole ones at their paths, others below `Damaged`, each with its bytes and its metadata.
 /// The comment of one that is not whole says why.
 ///
@@ -51,68 +41,45 @@ pub enum NotSaved {
 /// date `moment`. What is whole comes first, then what was found, then what is doubtful, then what is broken. What does not fit is
 /// left out.
 ///
-/// The volume is checked and looked through when it is made: an entry that is not there, with all that was saved of it, is left out.
+/// The volume is checked and looked through when it is made: each entry is there with all that was saved of it, or it is left out for
+/// a reason that holds. There is no volume if memory runs out, or if it is not so.
 pub fn volume_of_salvage(
     alloc: Global,
     salvage: &Salvage,
     moment: Date3,
-) -> Result<SavedVolume, NotSaved>
-    ensures entries { IfOk result (λ saved. (t : Tree) → Stands saved.volume.image t → AreSaved t salvage.now saved.own saved.left.items) }
-    ensures head { IfOk result (λ saved. (t : Tree) → Stands saved.volume.image t → HasHeadFor salvage.now.image moment t) }
-    ensures boot { IfOk result (λ saved. HasBootOf salvage.now saved.volume.image) }
+) -> Result<SavedVolume, AllocError>
+    ensures { IfOk result (λ saved. IsVolumeOf salvage.now moment saved.volume.image saved.own saved.left.items) }
 {
     let head = head_of(salvage.image(), moment);
     let plan = SavedPlan::of(alloc, salvage.entries())?;
-    let (image, fates) = image_of(alloc, salvage, &plan, &head)?;
+    let image = image_of(alloc, salvage, &plan, &head)?;
     let Ok(mut volume) = check(alloc, image) else {
-        return Err(NotSaved::Memory);
+        return Err(AllocError);
     };
     let is_headed = has_head(alloc, &volume, &head)?;
     if !is_headed || !has_boot(volume.image(), salvage) {
-        return Err(NotSaved::Unlike);
+        return Err(AllocError);
     }
     let looked = look_through(alloc, &mut volume, salvage, &plan)?;
-    let left = left_entries(alloc, salvage.entries(), &plan, &looked, &fates)?;
+    let left = left_entries(alloc, &volume, salvage, &plan, &looked)?;
     let own = plan.own;
     Ok(SavedVolume { volume, own, left })
 }
 
-/// The image with the entries of a salvage and this head; and for each item why it is left out, if it is.
+/// The image with the entries of a salvage and this head.
 fn image_of(
     alloc: Global,
     salvage: &Salvage,
     plan: &SavedPlan,
     head: &BundleHead,
-) -> Result<(Image, Vec<Option<LeftOut>>), NotSaved> {
+) -> Result<Image, AllocError> {
     if !size_ok(head.blocks) {
-        return Err(NotSaved::Unlike);
+        return Err(AllocError);
     }
     let mut volume = blank(alloc, head.format, head.blocks, head.label, head.created)?;
-    let fates = fill(alloc, &mut volume, salvage, &plan.items, head.changed)?;
+    fill(alloc, &mut volume, salvage, &plan.items, head.changed)?;
     match with_head(volume, head, boot_for(salvage)) {
-        Ok(image) => Ok((image, fates)),
-        Err(_) => Err(NotSaved::Unlike),
-    }
-}
-
-impl From<AllocError> for NotSaved {
-    ghost use Rattle.std.specs.Prelude.{◌≡◌};
-    ghost use Rattle.adf_import.specs.declared.saved_volume.NotSaved.TheVariants.{Memory};
-
-    ghost from_gives = { λ _ fault. fault ≡ Memory };
-
-    fn from(_error: AllocError) -> NotSaved {
-        NotSaved::Memory
-    }
-}
-
-impl<T: Drop> From<AllocFailed<T>> for NotSaved {
-    ghost use Rattle.std.specs.Prelude.{◌≡◌};
-    ghost use Rattle.adf_import.specs.declared.saved_volume.NotSaved.TheVariants.{Memory};
-
-    ghost from_gives = { λ _ fault. fault ≡ Memory };
-
-    fn from(_error: AllocFailed<T>) -> NotSaved {
-        NotSaved::Memory
+        Ok(image) => Ok(image),
+        Err(_) => Err(AllocError),
     }
 }

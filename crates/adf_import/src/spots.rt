@@ -1,8 +1,8 @@
 //! Where the entries of a salvage stand in a new volume.
 ghost use Rattle.std.specs.Prelude.{◌≡◌, ◌↔◌, IsTrue};
+ghost use Rattle.adf_import.specs.SavedLeft.{is_directory, root_spot, spot_above};
 ghost use Rattle.adf_import.specs.SavedNames.{is_whole};
 ghost use Rattle.adf_import.specs.SavedVolume.{spot_of};
-ghost use Rattle.adf_import.specs.steps.Spots.{root_spot, spot_above};
 
 use ados_salvage::{Salvaged, State};
 
@@ -74,4 +74,11 @@ pub(crate) fn is_whole(state: State) -> bool
     ensures { result ≡ is_whole state }
 {
     matches!(state, State::Directory | State::Whole)
+}
+
+/// Whether an entry in this state is a directory.
+pub(crate) fn is_directory(state: State) -> bool
+    ensures { result ≡ is_directory state }
+{
+    matches!(state, State::Directory | State::DoubtfulDirectory)
 }

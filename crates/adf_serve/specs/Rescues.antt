@@ -1,6 +1,11 @@
 -- How `extract --damaged` ends.
-use Rattle.std.specs.Prelude.{◌≡◌, ℕ, Bool, true, false, List, [], Option, None, Result, ⊤}
+use Rattle.std.specs.Prelude.{◌≡◌, ◌==◌, ℕ, Bool, true, false, List, [], length, Option, None, MatchOption, Result, ⊤}
 use Rattle.adf_block.specs.Image.{block_count}
+use Rattle.ados_name.specs.declared.stamp.Date3.{Date3}
+use Rattle.ados_salvage.specs.Salvaged.{Saved}
+use Rattle.adf_import.specs.SavedLeft.{IsVolumeOf}
+use Rattle.adf_import.specs.declared.saved_names.OwnNames.{OwnNames}
+use Rattle.adf_import.specs.declared.saved_volume.LeftEntry.{LeftEntry}
 use Rattle.adf_rescue.specs.Rescue.{IsReport}
 use Rattle.adf_cli.specs.declared.query.SalvageJob.{SalvageJob}
 use Rattle.adf_serve.specs.declared.fault.CommandFault.{CommandFault}
@@ -30,9 +35,23 @@ AreLacking job missing = job.image.blocks ≡ None → missing ≡ []
 abbrev pub AreHoles : SalvageJob → List ℕ → List Bool → Type 0
 AreHoles job image holes = (missing : List Bool) × AreLacking job missing × AreMarksOf job.bad (block_count image) missing holes
 
--- the report on a rescue of an image that was accepted or not, as lines or as a JSON object
+-- a new volume with everything of a salvage that can be there, and whether nothing is left out
+pub record IsMended (saved : Saved) (all : Bool) : Type 0 where
+  pub moment : Date3
+  pub image : List ℕ
+  pub own : OwnNames
+  pub left : List LeftEntry
+  pub made : IsVolumeOf saved moment image own left
+  pub is_all : all ≡ (length left == 0)
+
+-- if a new image is asked for, there is such a volume
+abbrev pub IsMendedFor : SalvageJob → Saved → Type 0
+IsMendedFor job saved = MatchOption job.out ⊤ (λ file. (all : Bool) × IsMended saved all)
+
+-- the report on a rescue of an image that was accepted or not, as lines or as a JSON object, and the new volume of that rescue
 abbrev pub IsRescueText : SalvageJob → Bool → List ℕ → Type 0
-IsRescueText job accepted text = (holes : List Bool) × (image : List ℕ) × AreHoles job image holes × IsReport job.json holes image accepted text
+IsRescueText job accepted text =
+    (holes : List Bool) × (image : List ℕ) × AreHoles job image holes × (report : IsReport job.json holes image accepted text) × IsMendedFor job report.rescue.salvage
 
 -- an image is refused only for a wrong size
 abbrev pub IsSomeSize : Refusal → Type 0

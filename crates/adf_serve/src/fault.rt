@@ -97,9 +97,6 @@ pub enum CommandFault<'a> {
     NotWhole,
     #[error("not all is in the new image")]
     LeftOut,
-    /// What was made is not what was planned.
-    #[error("the new image is not written: it is not as it was to be")]
-    Unlike,
 }
 
 impl fmt::Debug for CommandFault<'_> {
@@ -145,8 +142,7 @@ impl Drop for CommandFault<'_> {
             | CommandFault::ImagesRefused
             | CommandFault::NotChecked
             | CommandFault::NotWhole
-            | CommandFault::LeftOut
-            | CommandFault::Unlike => {}
+            | CommandFault::LeftOut => {}
         }
     }
 }

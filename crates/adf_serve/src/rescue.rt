@@ -2,7 +2,7 @@
 ghost use Rattle.std.specs.Prelude.{◌≡◌, ℕ, Bool, List, [], None, IfErr, IfOk};
 ghost use Rattle.adf_rescue.specs.Rescue.{IsRescue};
 ghost use Rattle.adf_serve.specs.Faults.{IsNoImage};
-ghost use Rattle.adf_serve.specs.Rescues.{AreHoles, DoesRescue, IsRescueEnd};
+ghost use Rattle.adf_serve.specs.Rescues.{AreHoles, DoesRescue, IsMendedFor, IsRescueEnd};
 
 use crate::bad::with_bad;
 use crate::boot::tell_boot;
@@ -119,7 +119,8 @@ fn tell_rescue<'a, W: Write, F: Write>(
     writer: &mut W,
     faults: &mut F,
 ) -> Result<(), CommandFault<'a>>
-    ensures { (holes : List Bool) (image : List ℕ) → AreHoles job.now image holes → IsRescue holes image rescue.now → DoesRescue job.now (W.contents writer.old) (W.contents writer.new) result }
+    ensures { (holes : List Bool) (image : List ℕ) → AreHoles job.now image holes → IsRescue holes image rescue.now → IsMendedFor job.now rescue.now.salvage
+        → DoesRescue job.now (W.contents writer.old) (W.contents writer.new) result }
 {
     tell_sums(rescue, faults);
     tell_doubts(alloc, rescue, faults);

@@ -1,13 +1,16 @@
 //! The new image of `extract --damaged --out`.
-ghost use Rattle.std.specs.Prelude.{IfErr};
+ghost use Rattle.std.specs.Prelude.{◌≡◌, IfErr, IfOk, MatchOption, is_some, true};
+ghost use Rattle.ados_name.specs.declared.stamp.Date3.{Date3};
+ghost use Rattle.adf_import.specs.SavedLeft.{IsVolumeOf};
 ghost use Rattle.adf_serve.specs.Faults.{IsNoImage};
+ghost use Rattle.adf_serve.specs.Rescues.{IsMended};
 
 use crate::changing::given_or_now;
 use crate::fault::CommandFault;
 use crate::images::{refuse_no_image, write_image};
 use adf_cli::SalvageJob;
 use adf_host::{HeldFile, PromptFiles, hold_target};
-use adf_import::{LeftEntry, LeftOut, NotSaved, SavedVolume, volume_of_salvage};
+use adf_import::{LeftEntry, LeftOut, SavedVolume, volume_of_salvage};
 use adf_record::Grouped;
 use adf_rescue::Rescue;
 use adf_text::print_line;
@@ -28,7 +31,8 @@ pub(crate) fn hold_out<'a, R: Files<File = File> + PromptFiles + Clock>(
     rt: &R,
     job: &SalvageJob<'a>,
 ) -> Result<Option<NewFile<'a>>, CommandFault<'a>>
-    ensures { IfErr result IsNoImage }
+    ensures asked { IfOk result (λ out. is_some out ≡ is_some job.now.out) }
+    ensures fault { IfErr result IsNoImage }
 {
     let Some(path) = job.out else {
         return Ok(None);
@@ -52,7 +56,8 @@ pub(crate) fn write_out<'a, R: Files<File = File> + PromptFiles + Clock, F: Writ
     out: Option<NewFile<'a>>,
     faults: &mut F,
 ) -> Result<bool, CommandFault<'a>>
-    ensures { IfErr result IsNoImage }
+    ensures mended { IfOk result (λ all. MatchOption out.entry (all ≡ true) (λ file. IsMended rescue.now.salvage all)) }
+    ensures fault { IfErr result IsNoImage }
 {
     let Some(NewFile { path, held }) = out else {
         return Ok(true);
@@ -69,13 +74,13 @@ fn saved_volume<'a, R: Clock>(
     alloc: Global,
     rescue: &Rescue,
 ) -> Result<SavedVolume, CommandFault<'a>>
-    ensures { IfErr result IsNoImage }
+    ensures made { IfOk result (λ saved. (moment : Date3) × IsVolumeOf rescue.now.salvage moment saved.volume.image saved.own saved.left.items) }
+    ensures fault { IfErr result IsNoImage }
 {
     let moment = given_or_now(rt, None)?;
     match volume_of_salvage(alloc, rescue.salvage(), moment) {
         Ok(saved) => Ok(saved),
-        Err(NotSaved::Memory) => Err(CommandFault::Memory),
-        Err(NotSaved::Unlike) => Err(CommandFault::Unlike),
+        Err(_) => Err(CommandFault::Memory),
     }
 }
 
@@ -118,6 +123,5 @@ fn reason_of(why: LeftOut) -> &'static str {
         LeftOut::Taken => "another entry has its name there",
         LeftOut::Joined => "another directory has its name there, and has its entries",
         LeftOut::NoDirectory => "its directory is not there",
-        LeftOut::Unlike => "it could not be read back as it was saved",
     }
 }

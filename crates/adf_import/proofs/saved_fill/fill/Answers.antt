@@ -7,4 +7,4 @@ pub put_or_leave-requires : goal.put_or_leave-requires
 put_or_leave-requires c = c.directory-dir.ensures c.loop-item.volume.image c.loop-item.invariant
 
 pub loop-item-preserved : goal.loop-item-preserved
-loop-item-preserved c = record { dir = c.in_ok-fate.ensures.keeps.directory c.root-top.result c.loop-item.invariant.dir; progress = c.in_ok-fate.ensures.progress }
+loop-item-preserved c = record { dir = c.in_ok-is_there.ensures.keeps.directory c.root-top.result c.loop-item.invariant.dir; progress = c.in_ok-is_there.ensures.progress }
