@@ -82,7 +82,7 @@ is_directory states.Directory = true
 is_directory states.DoubtfulDirectory = true
 is_directory state = false
 
--- an object has the path of a place: that of another place, with everything of its entry; both are directories or not
+-- the object at the path of a place is that of another place, and has everything of the entry there; both entries are directories or not
 pub record IsTaken (t : Tree) (saved : Saved) (own : OwnNames) (spot : Spot) (state : State) (both : Bool) : Type 0 where
   pub key : ℕ
   pub at_path : IsAtSpot t saved.entries own spot key
@@ -92,7 +92,7 @@ pub record IsTaken (t : Tree) (saved : Saved) (own : OwnNames) (spot : Spot) (st
   pub same : IsSavedAt t saved other.entry key
   pub directories : (is_directory state && not (is_file t key)) ≡ both
 
--- the place of an entry is vacant, and it needs more blocks than are free
+-- an entry needs so many blocks, and fewer are free
 pub record HasNoRoom (t : Tree) (saved : Saved) (entry : Salvaged) (needed room : ℕ) : Type 0 where
   pub needs : needed ≡ blocks_for t saved entry
   pub has : room ≡ free t

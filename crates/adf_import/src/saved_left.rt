@@ -119,10 +119,21 @@ fn other_there(
     if !is_of_other(looked, spot, key) {
         return Err(AllocError);
     }
-    if is_directory(state) && !volume.is_file(key) {
-        return Ok(LeftOut::Joined);
+    Ok(taken_as(volume, state, key))
+}
+
+/// The reason of an entry in this state whose name another object has: both are directories, or not.
+fn taken_as(volume: &Volume, state: State, key: u32) -> LeftOut
+    requires { HasKey volume.now.image key }
+    ensures { (t : Tree) → Stands volume.now.image t → result ≡ (if is_directory state && not (is_file t key) then Joined else Taken) }
+{
+    if !is_directory(state) {
+        return LeftOut::Taken;
     }
-    Ok(LeftOut::Taken)
+    if volume.is_file(key) {
+        return LeftOut::Taken;
+    }
+    LeftOut::Joined
 }
 
 /// Whether the object with this key was found at another place, with everything of the entry there.
