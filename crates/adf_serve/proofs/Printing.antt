@@ -2,6 +2,9 @@
 use Rattle.std.proofs.Common.{◌≡◌, ◌≢◌, ◌↔◌, ℕ, Bor, ◌⊎◌, IsTrue, IsFalse, codes, inl, inr, Bool, true, false, List, [], ◌++◌, Option, Some, None, MatchOption, option_map, Ok, Err, IfErr, OnErr, OnOk, IsErrAnd, refl, sym, ap, ap₂, ◌∙◌, subst}
 use Rattle.std.specs.Io.KnownBytes.{Appends, Keeps}
 use Rattle.std.proofs.KnownBytes.{Keeps-refl}
+use Rattle.std.specs.Prelude.{⊤}
+use Rattle.ados_salvage.specs.Salvaged.{Saved}
+use Rattle.adf_cli.specs.declared.query.SalvageJob.{SalvageJob}
 use Rattle.ados_model.specs.Accepted.{Accepts, HandsBack, IsRefusal}
 use Rattle.ados_model.specs.Faults.{Shows}
 use Rattle.ados_model.specs.Stands.{Stands}
@@ -55,7 +58,7 @@ use Rattle.adf_where.specs.FaultyMap.{IsFaultyMap}
 use Rattle.ados_faults.specs.Listed.{IsOtherKind}
 use Rattle.adf_serve.specs.Placed.{DoesWhere, IsBareRefusal, IsPlacedIn, IsUnasked, IsWhereText, LeavesPlaced, MayEnd}
 use Rattle.adf_serve.specs.Reports.{DoesReport, IsSomeText, TellsReport}
-use Rattle.adf_serve.specs.Rescues.{IsHostEnd, IsRescueText, IsSomeSize}
+use Rattle.adf_serve.specs.Rescues.{IsHostEnd, IsMendedAs, IsMendedFor, IsRescueText, IsSomeSize, told_all}
 use Rattle.adf_serve.specs.Unread.{AreMarksOf}
 use Rattle.adf_serve.specs.Refusals.{dos_text, IsDosText, IsImageRefusal, IsRefusalText, IsSizeRefusal, refusal_text, told_line}
 
@@ -546,6 +549,30 @@ module _ (job : WhereJob) (image : List ℕ) where
     placed_ends fault (Ok x) left same = absurd same
     placed_ends fault (Err told) left same = left_ends told (subst (LeavesPlaced job image old new) (sym same) left)
 
+-- a report on a rescue that does not say whether all is in the new image
+module _ (job : SalvageJob) (all : Option Bool) where
+  less_mended : (saved : Saved) (all : Option Bool) → IsMendedAs saved all → IsMendedAs saved None
+  less_mended saved (Some whole) mended = (whole, mended)
+  less_mended saved None mended = mended
+
+  less_asked : (saved : Saved) → IsMendedFor job saved all → IsMendedFor job saved None
+  less_asked saved mended = go job.out mended
+    where
+      go : {Path : Type 0} (out : Option Path) → MatchOption out ⊤ (λ file. IsMendedAs saved all) → MatchOption out ⊤ (λ file. IsMendedAs saved None)
+      go None mended = tt
+      go (Some file) mended = less_mended saved all mended
+
+  pub less_told : (accepted : Bool) (text : List ℕ) → IsRescueText job all accepted text → IsRescueText job None accepted text
+  less_told accepted text (holes, image, are, report, mended) = (holes, image, are, report, less_asked report.rescue.salvage mended)
+
+-- a report on a rescue without memory for its text
+rescue_unsaid : (json : Bool) (job : SalvageJob) (all : Option Bool) (old new : Option (List ℕ))
+    → TellsReport json (IsRescueText job all) IsSomeSize (λ (fault : CommandFault). IsHostEnd fault job.list) old new (Err Memory)
+    → TellsReport json (IsRescueText job None) IsSomeSize (λ (fault : CommandFault). IsHostEnd fault job.list) old new (Err Memory)
+rescue_unsaid json job all old new (may, inl keeps) = (may, inl keeps)
+rescue_unsaid json job all old new (may, inr (text, inl (accepted, is), front)) = (may, inr (text, inl (accepted, less_told job all accepted text is), front))
+rescue_unsaid json job all old new (may, inr (text, inr told, front)) = (may, inr (text, inr told, front))
+
 -- for jobs with such texts for bytes
 module _ (json : Bool) (IsText BeginsText : List ℕ → List ℕ → Type 0) where
   -- a job succeeds
@@ -567,7 +594,7 @@ module _ (json : Bool) (IsText BeginsText : List ℕ → List ℕ → Type 0) wh
   failed (OfMade made file) old new fault (put, keeps) plain = (λ is. made_failed json made old new fault (put is) plain, λ other. rw (none_in json fault plain) (inl (keeps other)))
   failed Unsaid old new fault h plain = tt
   failed (OfImages job) old new fault h plain = h
-  failed (OfRescue job) old new fault h plain = report_failed json (IsRescueText job) IsSomeSize (λ (fault : CommandFault). IsHostEnd fault job.list) old new fault h plain
+  failed (OfRescue job) old new fault h plain = report_failed json (IsRescueText job (told_all (Err fault))) IsSomeSize (λ (fault : CommandFault). IsHostEnd fault job.list) old new fault h plain
   failed (OfDeleted job) old new fault h plain = report_failed json (IsDeletedText job) IsSomeSize IsUndeleteEnd old new fault h plain
   failed (OfBlocks job) old new fault h plain = report_failed json (IsWhereText job) (IsBareRefusal job) MayEnd old new fault h plain
   failed (OfMap job) old new fault h plain = report_failed json (IsMapReport job) IsBareMap MayEnd old new fault h plain
@@ -582,7 +609,9 @@ module _ (json : Bool) (IsText BeginsText : List ℕ → List ℕ → Type 0) wh
   unsaid (OfMade made file) old new fault (put, keeps) = (λ is. made_unsaid json made old new fault (put is), λ other. inl (keeps other))
   unsaid Unsaid old new fault h = tt
   unsaid (OfImages job) old new fault h = archive_unsaid job old new fault h
-  unsaid (OfRescue job) old new fault h = report_unsaid json (IsRescueText job) IsSomeSize (λ (fault : CommandFault). IsHostEnd fault job.list) old new fault tt h
+  unsaid (OfRescue job) old new fault h =
+      let all = told_all (Err fault) in
+      rescue_unsaid json job all old new (report_unsaid json (IsRescueText job all) IsSomeSize (λ (fault : CommandFault). IsHostEnd fault job.list) old new fault tt h)
   unsaid (OfDeleted job) old new fault h = report_unsaid json (IsDeletedText job) IsSomeSize IsUndeleteEnd old new fault tt h
   unsaid (OfBlocks job) old new fault h = report_unsaid json (IsWhereText job) (IsBareRefusal job) MayEnd old new fault tt h
   unsaid (OfMap job) old new fault h = report_unsaid json (IsMapReport job) IsBareMap MayEnd old new fault tt h
