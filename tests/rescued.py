@@ -258,6 +258,43 @@ def same_names(room: Room) -> None:
     room.report.same("the other one is there", by_path(read(room.content("new.adf")))[b"letter"], by_path(read(room.content("old.adf")))[b"letter"])
 
 
+def same_directories(room: Room) -> None:
+    """Of two directories with the same name on an Amiga the first one has the files of both."""
+    room.write("work.adf", room.content("old.adf"))
+    room.write("given", b"another")
+    room.done("mkdir", "work.adf", "Docx")
+    room.done("add", "--as", "more", "--to", "Docx", "work.adf", "given")
+
+    def rename(image: Image) -> None:
+        key = key_of(image, b"Docx")
+        image.put(image.root, 6 + slot_of(b"Docx"), image.long(key, 124))
+        image.put(key_of(image, b"Docs"), 124, key)
+        image.data[BLOCK * key + 433 : BLOCK * key + 437] = b"DOCS"
+        image.put(key, 124, 0)
+        for it in (image.root, key, key_of(image, b"Docs")):
+            image.settle(it)
+
+    changed(room, rename, "work.adf")
+    found = LEFT_OUT.findall(saved(room).texts.decode())
+    room.report.same("one is left out", found, [("DOCS", "another directory has its name there, and has its entries")])
+    paths = [b"Docs", b"Docs/list", b"Docs/more", b"Docs/old", b"Docs/old/note", b"letter"]
+    room.report.same("the files of both are there", sorted(by_path(read(room.content("new.adf")))), paths)
+
+
+def no_directory(room: Room) -> None:
+    """A file whose directory has no block."""
+    room.done("blank", "--ffs", "--blocks", "40", *MOMENT, "Small", "small.adf")
+    room.write("given", b"w" * 33 * 512)
+    room.done("add", *MOMENT, "--as", "whole", "small.adf", "given")
+    room.write("given", b"")
+    room.done("mkdir", *MOMENT, "small.adf", "Docs")
+    room.done("add", *MOMENT, "--as", "last", "--to", "Docs", "small.adf", "given")
+    changed(room, break_sum(b"Docs/last"), "small.adf")
+    found = LEFT_OUT.findall(saved(room).texts.decode())
+    room.report.same("it is left out", found, [("Docs/last", "its directory is not there")])
+    room.report.same("what is there", sorted(by_path(read(room.content("new.adf")))), [b"Damaged", b"Docs", b"whole"])
+
+
 def targets(room: Room) -> None:
     changed(room, break_sum(b"letter"))
     saved(room)
@@ -358,7 +395,7 @@ def drawn_images(room: Room) -> None:
 
 
 def main(words: List[str]) -> int:
-    rules = (sound, label_and_dates, not_whole, long_comments, doubtful_directory, found_entries, own_names, full, same_names, targets)
+    rules = (sound, label_and_dates, not_whole, long_comments, doubtful_directory, found_entries, own_names, full, no_directory, same_names, same_directories, targets)
     return try_all(words, Room, *rules, drawn_images)
 
 
