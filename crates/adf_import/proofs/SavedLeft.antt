@@ -3,7 +3,7 @@ use Rattle.std.proofs.Common.{◌≡◌, ◌≢◌, ℕ, ◌+◌, ◌<◌, ◌�
 use Rattle.std.proofs.lemmas.List.{map-append}
 use Rattle.std.proofs.lemmas.List.Elements.{All-get_or, All-nil, All-push, All-weaker, Contains-append_left, Contains-append_right}
 use Rattle.std.proofs.lemmas.List.Quantifiers.{all_pairs_push}
-use Rattle.std.proofs.lemmas.Option.{slice_get_cases}
+use Rattle.std.proofs.lemmas.Option.{slice_get_cases, slice_get_read}
 use Rattle.adf_import.proofs.Common.{Stands, Tree, is_file}
 use Rattle.ados_salvage.specs.Salvaged.{Saved}
 use Rattle.ados_salvage.specs.declared.salvaged.Salvaged.{Salvaged}
@@ -38,6 +38,11 @@ entry_there entries place inside = go (slice_get_cases entries place).1
 pub same_entry : (entries : List Salvaged) (place : ℕ) (entry read : Salvaged) → slice_get entries place ≡ Some entry → slice_get entries place ≡ Some read → entry ≡ read
 same_entry entries place entry read at is = let both : Some entry ≡ Some read = sym at ∙ is in cc both
 
+-- an entry that was read at a position is the one there
+pub read_entry : (entries told : List Salvaged) (place : ℕ) (entry read : Salvaged) → told ≡ entries → read ≡ get_or told place read → place < length entries → slice_get entries place ≡ Some entry → entry ≡ read
+read_entry entries told place entry read same is inside at =
+    same_entry entries place entry read at (slice_get_read entries (length entries) place read refl inside (subst (λ (es : List Salvaged). read ≡ get_or es place read) same is))
+
 -- nothing is left of an entry only if it is lost
 pub not_lost : (state : State) → ¬ (state ≡ states.Lost) → ¬ IsLostState state
 not_lost states.Lost other lost = other refl
@@ -59,7 +64,7 @@ module _ (image : List ℕ) (saved : Saved) (own : OwnNames) (t : Tree) (s : Sta
   -- what is at the path of an entry is what was found at another place
   pub taken_by : (place key : ℕ) (entry : Salvaged) (looked : List Looked) (saved_here : Bool) → IsObjectAt image saved own (spot_of place entry) key saved_here → All (IsLooked image saved own) looked
       → Any (IsOfOther (spot_of place entry) key) looked → (both : Bool) → (is_directory entry.state && not (is_file t key)) ≡ both → IsTaken t saved own (spot_of place entry) entry.state both
-  taken_by place key entry looked saved_here o all (k, other, inside, is, apart, there) both directories =
+  taken_by place key entry looked saved_here o all (k, other, inside, is, (apart, there)) both directories =
       let known : IsLooked image saved own other = subst (IsLooked image saved own) is (all k other inside) in
       let seen : IsObjectAt image saved own other.spot key true = subst (IsFoundAt image saved own other.spot) there known in
       record {

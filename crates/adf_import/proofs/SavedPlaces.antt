@@ -90,10 +90,10 @@ module _ (t : Tree) (entries : List Salvaged) (own : OwnNames) (name : List ℕ)
 pub found_in : (image : List ℕ) (saved : Saved) (own : OwnNames) (spot : Spot) (dir : ℕ) (name : List ℕ) (there : AtPath) → HasDirectory image dir
     → ((t : Tree) → Stands image t → (above : Spot) × (spot_above saved.entries spot ≡ Some above) × IsAtSpot t saved.entries own above dir) → IsNameAt saved.entries own spot name
     → IsChildAt image saved spot dir name there → IsFoundAt image saved own spot there
-found_in image saved own spot dir name (paths.Object key has_all) directory at named child = record {
-  known = child.known;
-  there = λ t s. let above = at t s in step_down t saved.entries own name dir key (child.child t s) spot above.0 above.1 named above.2;
-  same = child.same;
+found_in image saved own spot dir name (paths.Object key has_all) directory at named its = record {
+  known = its.known;
+  there = λ t s. let above = at t s in step_down t saved.entries own name dir key (its.child t s) spot above.0 above.1 named above.2;
+  same = its.same;
 }
 found_in image saved own spot dir name paths.Nothing directory at named none = λ t s.
     let above = at t s in

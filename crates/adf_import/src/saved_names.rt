@@ -1,5 +1,5 @@
 //! Names and comments of the entries of a salvage in a new volume.
-ghost use Rattle.std.specs.Prelude.{◌≡◌, IfOk};
+ghost use Rattle.std.specs.Prelude.{◌≡◌, IfOk, take};
 ghost use Rattle.adf_import.specs.SavedNames.{broken_text, comment_for, doubt_of, joined, name_for, why_of};
 
 use crate::spots::is_whole;
@@ -70,12 +70,19 @@ pub(crate) fn name_for(alloc: Global, entry: &Salvaged) -> Result<Vec<u8>, Alloc
 {
     let own = entry.own_name(alloc)?;
     let name = entry.name.bytes();
-    let endings = &own[name.len().min(own.len())..];
-    let ending = &endings[..endings.len().min(Name::MAX_LEN)];
+    let ending = cut(&own[name.len().min(own.len())..]);
     let front = name.len().min(Name::MAX_LEN.saturating_sub(ending.len()));
     let mut text = Vec::from_slice(alloc, &name[..front])?;
     text.extend_from_slice(ending)?;
     Ok(text)
+}
+
+/// The first bytes, as many as a name has at most.
+#[tactic(auto, using(std::proofs::lemmas::List::take_min))]
+fn cut(text: &[u8]) -> &[u8]
+    ensures { result.now ≡ take 30 text.now }
+{
+    &text[..Name::MAX_LEN.min(text.len())]
 }
 
 /// The comment of an entry in this state, with this comment: if it is not whole, the reason, and the comment behind it if there is room.

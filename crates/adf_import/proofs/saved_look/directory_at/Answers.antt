@@ -20,16 +20,16 @@ returns-then-is_file c = λ t s.
     let o = c.in-Object.ensures c.args.volume.now.image c.args.salvage.now c.args.own.now c.requires in
     (c.in-Some.above, up, has_file c.in-Object.key (o.there t s) (sym (c.is_file.ensures.file t s) ∙ c.if-is_file.true))
 
-pub returns-in-Object : goal.returns-in-Object
-returns-in-Object c =
+pub returns-else-is_file : goal.returns-else-is_file
+returns-else-is_file c =
     let o = c.in-Object.ensures c.args.volume.now.image c.args.salvage.now c.args.own.now c.requires in
     (c.is_file.ensures.directory c.if-is_file.false, λ t s. (c.in-Some.above, search rules, o.there t s))
 
-pub returns-then-free_blocks : goal.returns-then-free_blocks
-returns-then-free_blocks c = λ t s.
+pub returns-then-free_blocks-eq0 : goal.returns-then-free_blocks-eq0
+returns-then-free_blocks-eq0 c = λ t s.
     let up : spot_above c.args.salvage.now.entries c.args.item.now.spot ≡ Some c.in-Some.above = search rules in
     let vacant = c.in-Nothing.ensures c.args.volume.now.image c.args.salvage.now c.args.own.now c.requires t s in
-    (c.in-Some.above, up, is_vacant vacant (sym (c.free_blocks.ensures t s) ∙ c.if-free_blocks.true))
+    (c.in-Some.above, up, is_vacant vacant (sym (c.free_blocks.ensures t s) ∙ c.if-free_blocks-eq0.true))
 
 pub returns-in-NoDirectory : goal.returns-in-NoDirectory
 returns-in-NoDirectory c = λ t s.

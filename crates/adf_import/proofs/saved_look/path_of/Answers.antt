@@ -12,4 +12,4 @@ returns-in-Directory-clause-there c =
     let item = c.args.item.now in
     let named : IsNameAt saved.entries own item.spot item.name = subst (λ (es : List Salvaged). IsNameAt es own item.spot item.name) c.entries.ensures (c.in_ok-named.ensures c.if-not-named.false) in
     let above = c.in-Directory.ensures in
-    ok_more _ _ c.child_at.result (λ there told. found_in c.args.volume.now.image saved own item.spot c.in-Directory.field-0 item.name there above.0 above.1 named told) c.child_at.ensures.there
+    ok_more _ _ c.child_at.result (λ there told. found_in c.args.volume.now.image saved own item.spot c.in-Directory.dir item.name there above.0 above.1 named told) c.child_at.ensures.there
