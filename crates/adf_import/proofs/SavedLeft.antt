@@ -1,5 +1,5 @@
 -- What a new volume has not of a salvage, and why.
-use Rattle.std.proofs.Common.{◌≡◌, ◌≢◌, ℕ, ◌+◌, ◌<◌, ◌≤◌, ◌⊎◌, inl, inr, ◌&&◌, Bool, true, false, not, if◌then◌else◌, List, [], ◌∷◌, ◌++◌, map, length, get_or, Option, None, Some, All, AllPairs, Any, Contains, slice_get, refl, sym, ap, ◌∙◌, subst, arith, append-nil, eq-or-lt_of_le}
+use Rattle.std.proofs.Common.{◌≡◌, ℕ, ◌+◌, ◌<◌, ◌≤◌, ◌⊎◌, inl, inr, ◌&&◌, Bool, true, false, not, if◌then◌else◌, List, [], ◌∷◌, ◌++◌, length, get_or, Option, None, Some, All, AllPairs, Any, Contains, slice_get, refl, sym, ap, ◌∙◌, subst, arith, append-nil, eq-or-lt_of_le}
 use Rattle.std.proofs.lemmas.List.{map-append}
 use Rattle.std.proofs.lemmas.List.Elements.{All-get_or, All-nil, All-push, All-weaker, Contains-append_left, Contains-append_right}
 use Rattle.std.proofs.lemmas.List.Quantifiers.{all_pairs_push}
@@ -13,12 +13,9 @@ use Rattle.adf_import.specs.SavedLeft.{AreLeftOut, HasReason, IsLeftOut, IsTaken
 use Rattle.adf_import.specs.SavedVolume.{AreSaved, IsLostState, IsSavedIn, places_of, spot_of}
 use Rattle.adf_import.specs.declared.saved_left.LeftOut.{LeftOut}
 use Rattle.adf_import.specs.declared.saved_left.LeftOut.TheVariants.{Joined, Taken}
-use Rattle.adf_import.specs.declared.saved_look.AtPath.{AtPath}
-use Rattle.adf_import.specs.declared.saved_look.AtPath.TheVariants as paths
 use Rattle.adf_import.specs.declared.saved_look.Looked.{Looked}
 use Rattle.adf_import.specs.declared.saved_names.OwnNames.{OwnNames}
 use Rattle.adf_import.specs.declared.saved_volume.LeftEntry.{LeftEntry}
-use Rattle.adf_import.specs.declared.spots.Spot.{Spot}
 use Rattle.adf_import.specs.steps.Spots.{IsFoundAt, IsLooked, IsObjectAt, IsOfOther, IsTold, left_at}
 
 -- an entry that is left out

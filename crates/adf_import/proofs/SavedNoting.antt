@@ -1,7 +1,7 @@
 -- An object with everything of an entry.
-use Rattle.std.proofs.Common.{◌≡◌, ℕ, List, Option, Some, Result, Ok, Err, IfOk, slice_get, refl, sym, ap, ◌∙◌, subst}
+use Rattle.std.proofs.Common.{◌≡◌, ℕ, Option, Some, Result, Ok, Err, IfOk, sym, ap, ◌∙◌, subst}
 use Rattle.std.proofs.lemmas.Option.{get_or_from_slice_get}
-use Rattle.adf_import.proofs.Common.{Content, FileInfo, Node, Tree, content_at, file_info}
+use Rattle.adf_import.proofs.Common.{FileInfo, Node, Tree, content_at, file_info}
 use Rattle.ados_salvage.specs.Salvaged.{Saved}
 use Rattle.ados_salvage.specs.Saved.{IsAt}
 use Rattle.ados_salvage.specs.declared.salvaged.Salvaged.{Salvaged}

@@ -4,7 +4,7 @@ use Rattle.adf_import.proofs.Common.{HasDirectory, Stands, Tree, child_of, root}
 use Rattle.ados_salvage.specs.Salvaged.{Saved}
 use Rattle.ados_salvage.specs.declared.salvaged.Salvaged.{Salvaged}
 use Rattle.adf_import.specs.SavedNames.{name_for}
-use Rattle.adf_import.specs.SavedVolume.{IsAtSpot, IsPathOf, IsSpotPath, LeadsTo, front_for}
+use Rattle.adf_import.specs.SavedVolume.{IsAtSpot, IsPathOf, front_for}
 use Rattle.adf_import.specs.SavedVolume.IsPathOf.{top, below}
 use Rattle.adf_import.specs.SavedVolume.LeadsTo.{at_root, child}
 use Rattle.adf_import.specs.declared.saved_names.OwnNames.{OwnNames}

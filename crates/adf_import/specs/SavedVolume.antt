@@ -1,5 +1,5 @@
 -- A new volume with what was saved of a damaged image.
-use Rattle.std.specs.Prelude.{◌≡◌, ◌⊎◌, ℕ, Bool, true, not, ◌||◌, MatchBool, if◌then◌else◌, List, [], ◌∷◌, ◌++◌, Contains, map, Option, Some, None, slice_get, codes, ⊤}
+use Rattle.std.specs.Prelude.{◌≡◌, ◌⊎◌, ℕ, Bool, not, ◌||◌, MatchBool, if◌then◌else◌, List, [], ◌∷◌, ◌++◌, Contains, map, Option, Some, None, slice_get, codes, ⊤}
 use Rattle.adf_block.specs.BootCode.{IsEmpty, boot_bytes}
 use Rattle.adf_block.specs.Fields.{format_of, primary_type, secondary_type}
 use Rattle.adf_block.specs.Image.{block_count, block_sum, root_key}

@@ -1,4 +1,4 @@
-use Rattle.std.proofs.Common.{rules, ◌≡◌, ℕ, ◌+◌, ◌<◌, ◌≤◌, List, [], length, sym, ap, ◌∙◌, subst, arith}
+use Rattle.std.proofs.Common.{rules, ◌≡◌, ◌+◌, ◌<◌, ◌≤◌, List, [], length, sym, ap, subst, arith}
 use Rattle.std.proofs.lemmas.Option.{slice_get_within}
 use Rattle.adf_import.proofs.SavedLeft.{AreToldBelow, all_left, all_saved, entry_there, more_told, none_told}
 use Rattle.adf_import.specs.declared.saved_volume.LeftEntry.{LeftEntry}

@@ -1,4 +1,3 @@
-use Rattle.std.proofs.Common.{◌≡◌, Bool, true}
 use Rattle.adf_import.proofs.SavedNoting.{ok_more, saved_at}
 use Rattle.adf_import.proofs.saved_look.is_saved.Goals as goal
 
