@@ -555,7 +555,7 @@ module _ (job : SalvageJob) (all : Option Bool) where
   less_mended saved (Some whole) mended = (whole, mended)
   less_mended saved None mended = mended
 
-  less_asked : (saved : Saved) → IsMendedFor job saved all → IsMendedFor job saved None
+  pub less_asked : (saved : Saved) → IsMendedFor job saved all → IsMendedFor job saved None
   less_asked saved mended = go job.out mended
     where
       go : {Path : Type 0} (out : Option Path) → MatchOption out ⊤ (λ file. IsMendedAs saved all) → MatchOption out ⊤ (λ file. IsMendedAs saved None)
