@@ -19,6 +19,7 @@ pub mod Parts
 pub mod Reaching
 pub mod Naming
 mod Bundled
+pub mod Ordering
 pub mod SavedPlaces
 pub mod SavedNoting
 pub mod SavedLeft

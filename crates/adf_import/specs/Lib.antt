@@ -12,6 +12,7 @@ pub mod Put
 pub mod Commands
 pub mod Progress
 pub mod SavedNames
+pub mod SavedOrder
 pub mod SavedVolume
 pub mod SavedLeft
 pub mod steps

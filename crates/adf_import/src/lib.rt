@@ -27,6 +27,7 @@ mod saved_head;
 mod saved_left;
 mod saved_look;
 mod saved_names;
+mod saved_order;
 mod saved_plan;
 mod saved_volume;
 mod single;
