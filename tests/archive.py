@@ -1,6 +1,6 @@
 #!/usr/bin/env python3
 """Tests the built program on whole archives: checks of many images, lists of names, all faults of an image, JSON, endless input, and the
-salvage of damaged images.
+salvage of damaged images, also where a block holds a filler.
 
     tests/archive.py [PROGRAM]
 
@@ -1210,16 +1210,251 @@ class Salvage:
         image = Volume(self.good)
         image.change(image.header("long"), 126, 0)
         told = taken(self.room, image)
-        found = (told.status, told.lines["Docs/long"].split()[0])
-        # (in OFS the blocks are linked)
-        self.report.same(f"{self.title}: a missing extension block", found, (3, "broken" if self.is_ffs else "doubtful"))
-        first = 72 * (512 if self.is_ffs else 488)
-        self.report.same(f"{self.title}: its first blocks", told.written["Docs/long"][:first], self.files["Docs/long"][:first])
+        # (in OFS the data blocks are linked, and in FFS the extension block names the file)
+        wanted = {**{name: "whole" for name in self.files}, "Docs/long": "doubtful"}
+        self.report.same(f"{self.title}: an extension block that the header does not name", told, Taken(3, wanted, self.files))
+
+    def unused_page(self) -> None:
+        image = Volume(self.good)
+        header = image.header("long")
+        image.put(header, 5, image.long(header, 5) ^ 1)
+        image.change(ROOT, 80, image.pointers(header)[3])
+        told = taken(self.room, image)
+        found = (told.status, told.lines["Docs/long"], told.written["Docs/long"] == self.files["Docs/long"])
+        self.report.same(f"{self.title}: a long of the root behind those of its bitmap blocks says nothing", found, (3, "doubtful", True))
 
     def noted(self) -> None:
         told = taken(self.room, Volume(self.good), "--meta")
         notes = [f"{name}.uaem" for name in [*self.files, "S", "Docs", "Docs/Deep"]]
         self.report.same(f"{self.title}: notes beside files", sorted(told.written), sorted([*self.files, *notes]))
+
+
+def salvaged_fillers(room: Room) -> None:
+    """A file with a data block that holds a filler is whole on an accepted disk. Where the disk is refused, or with a list of unread blocks,
+    it is doubtful, with that reason, and keeps its bytes."""
+    for kind in KINDS:
+        said, size = f"filler {kind[0] if kind else '--ofs'}, salvaged", BLOCK if kind else 488
+        files = filled(room, "filler.adf", *kind)
+        clean = Volume(room.content("filler.adf"))
+        header = clean.header("long")
+        block = [*clean.pointers(header), *clean.pointers(clean.long(header, 126))][73]
+        free = next(it for it in range(2, clean.blocks) if not any(clean.data[BLOCK * it : BLOCK * (it + 1)]))
+        room.write("free.txt", f"{free}\n".encode())
+        room.write("none.txt", b"# nothing\n")
+        accepted = Volume(bytes(clean.data))
+        cover(accepted, block, FORMATTED)
+        nearly = Volume(bytes(accepted.data))
+        nearly.data[BLOCK * block + BLOCK - 1] ^= 1
+        for it in [] if kind else [block]:
+            nearly.settle(it)
+        refused, other = Volume(bytes(accepted.data)), Volume(bytes(nearly.data))
+        for it in (refused, other):
+            it.put(ROOT, 5, it.long(ROOT, 5) ^ 1)
+        f6 = FORMATTED * size
+        held, almost = ({**files, "Docs/long": files["Docs/long"][: 73 * size] + it + files["Docs/long"][74 * size :]} for it in (f6, f6[:-1] + b"\xf7"))
+        whole = {it: "whole" for it in files}
+        doubtful = {**whole, "Docs/long": "doubtful"}
+        rows: List[Tuple[str, Volume, List[str], Taken]] = [
+            ("of an accepted disk", accepted, [], Taken(0, whole, held)),
+            ("of an accepted disk with its size", accepted, ["--blocks", "1760"], Taken(0, whole, held)),
+            ("of a refused disk", refused, [], Taken(3, doubtful, held)),
+            ("with a list of free blocks", accepted, ["--bad", "free.txt"], Taken(3, doubtful, held)),
+            ("with a list of no blocks", accepted, ["--bad", "none.txt"], Taken(3, doubtful, held)),
+            ("of a refused disk with a list", refused, ["--bad", "free.txt"], Taken(3, doubtful, held)),
+            ("of a disk without one, with a list", clean, ["--bad", "free.txt"], Taken(0, whole, files)),
+            ("nearly one, with a list", nearly, ["--bad", "free.txt"], Taken(0, whole, almost)),
+            ("nearly one, of a refused disk", other, [], Taken(3, whole, almost)),
+        ]
+        for name, image, words, wanted in rows:
+            room.report.same(f"{said}: {name}", taken(room, image, *words), wanted)
+            texts = room.run("extract", "--damaged", "--list", *words, "damaged.adf").texts
+            reason = f"block {block} holds a filler" if "doubtful" in wanted.lines.values() else None
+            room.report.same(f"{said}: {name}, why", doubts_told(texts), [f"adf_serve: 'Docs/long' is doubtful: {reason}".encode()] if reason else [])
+            entries = json.loads(room.run("extract", "--damaged", "--list", "--json", *words, "damaged.adf").output)["entries"]
+            room.report.same(f"{said}: {name}, as JSON", {it["path"]: it["reason"] for it in entries if it["reason"]}, {"Docs/long": reason} if reason else {})
+
+
+class Wide(NamedTuple):
+    """An image with a file of many extension blocks: its bytes, its header with these, and its data blocks."""
+
+    image: Volume
+    data: bytes
+    heads: List[int]
+    blocks: List[int]
+
+    def wiped(self, blocks: Sequence[int]) -> Volume:
+        """A copy in which these blocks are zeros."""
+        image = Volume(self.image.data)
+        for it in blocks:
+            image.clear(it)
+        return image
+
+
+def wide(room: Room, size: int, *kind: str) -> Wide:
+    room.write("wide", random.randbytes(size))
+    room.done("blank", *kind, "Work", "wide.adf")
+    room.done("add", "wide.adf", "wide")
+    image = Volume(room.content("wide.adf"))
+    heads = [image.header("wide")]
+    while image.long(heads[-1], 126):
+        heads.append(image.long(heads[-1], 126))
+    return Wide(image, room.content("wide"), heads, [block for head in heads for block in image.pointers(head)])
+
+
+def unaccounted(room: Room) -> List[int]:
+    """The blocks of the image that was last damaged that are used and belong to nothing."""
+    told: List[int] = json.loads(room.run("extract", "--damaged", "--list", "--json", "damaged.adf").output)["unaccounted"]
+    return told
+
+
+def found_by_numbers(room: Room) -> None:
+    """An OFS file whose extension blocks are wiped has all data blocks that say which one they are, also where none names the next one."""
+    it = wide(room, 100_000)
+    room.report.same("the blocks of 100,000 bytes", (len(it.heads), len(it.blocks)), (3, 205))
+    for said, wiped in (("first", it.heads[1:2]), ("last", it.heads[2:]), ("extension blocks", it.heads[1:])):
+        image = it.wiped(wiped)
+        room.report.same(f"data blocks by links, {said}", taken(room, image), Taken(3, {"wide": "doubtful"}, {"wide": it.data}))
+        for block in it.blocks:
+            image.change(block, 4, 0)
+        room.report.same(f"data blocks by numbers, {said}", taken(room, image), Taken(3, {"wide": "doubtful"}, {"wide": it.data}))
+        # (an extension block that no other one leads to belongs to nothing)
+        room.report.same(f"data blocks by numbers, {said}, what is left", unaccounted(room), sorted({*wiped, *it.heads[2:]}))
+    image = it.wiped([*it.heads[1:], it.blocks[100], it.blocks[204]])
+    image.put(it.blocks[150], 100, image.long(it.blocks[150], 100) ^ 1)
+    for block in it.blocks[101:150]:
+        image.change(block, 4, 0)
+    held = bytearray(it.data[: 204 * 488])
+    for k in (100, 150):
+        held[488 * k : 488 * (k + 1)] = bytes(488)
+    room.report.same("data blocks by numbers, with right checksums alone", taken(room, image), Taken(3, {"wide": "broken 3"}, {"wide": bytes(held)}))
+
+
+def lowest_by_number(room: Room) -> None:
+    """Of two OFS data blocks with one number the lower one is taken, where nothing names either of them."""
+    it = wide(room, 100_000)
+    block = it.blocks[150]
+    for copy in (it.heads[1], max(it.blocks) + 4):
+        image = it.wiped(it.heads[1:])
+        image.data[BLOCK * copy : BLOCK * (copy + 1)] = image.data[BLOCK * block : BLOCK * (block + 1)]
+        image.data[BLOCK * copy + 24 : BLOCK * (copy + 1)] = b"copy" * 122
+        image.settle(copy)
+        image.change(it.blocks[149], 4, 0)
+        held = it.data[: 150 * 488] + (b"copy" * 122 if copy < block else it.data[150 * 488 : 151 * 488]) + it.data[151 * 488 :]
+        found = taken(room, image)
+        room.report.same(f"two data blocks with one number, block {copy}", found, Taken(3, {"wide": "doubtful"}, {"wide": held}))
+
+
+def placed(parts: Sequence[Optional[int]], count: int) -> Dict[int, int]:
+    """The data blocks of an FFS file of so many, by the numbers at which they stand, if those of these pointer blocks stand one behind
+    another."""
+    pairs = [(72 * at + nth, 72 * part + nth) for at, part in enumerate(parts) if part is not None for nth in range(72)]
+    return {at: number for at, number in pairs if max(at, number) < count}
+
+
+class Loose(NamedTuple):
+    """Extension blocks of an FFS file with four of them: those that are wiped, next ones that are other ones, by their numbers, and the
+    pointer blocks by whose data blocks the file is made."""
+
+    wiped: List[int]
+    links: Dict[int, int]
+    parts: List[Optional[int]]
+
+
+LOOSE = [
+    Loose([2], {}, [0, 1, None, 3, 4]),
+    Loose([1], {}, [0, None, 2, 3, 4]),
+    Loose([1, 2], {}, [0, None, None, 3, 4]),
+    Loose([4], {}, [0, 1, 2, 3]),
+    Loose([1, 3], {}, [0, None, 2, None, 4]),
+    Loose([2, 4], {}, [0, 1, None, 3]),
+    # (how many blocks are missing before a chain that does not end the file is not known)
+    Loose([1, 2, 4], {}, [0, None, 3]),
+    # Nothing is wiped, and the links alone are other ones: none, to the last one, round, and to itself.
+    Loose([], {0: 0}, [0, 1, 2, 3, 4]),
+    Loose([], {1: 0}, [0, 1, 2, 3, 4]),
+    Loose([2], {4: 3}, [0, 1, None, 3, 4]),
+    Loose([3], {2: 2}, [0, 1, 2, None, 4]),
+    Loose([2], {3: 3}, [0, 1, None, 3, 4]),
+    # Two end the file, and the second one finds no place.
+    Loose([2], {3: 0}, [0, 1, None, None, 3]),
+]
+
+
+def loose_extensions(room: Room) -> None:
+    """Extension blocks of an FFS file to which no link leads stand behind as many missing ones as fit in, or behind one. They belong to the
+    file, wherever they stand."""
+    it = wide(room, 150_000, "--ffs")
+    room.report.same("the blocks of 150,000 bytes", (len(it.heads), len(it.blocks)), (5, 293))
+    for loose in LOOSE:
+        image = it.wiped([it.heads[nth] for nth in loose.wiped])
+        for nth, link in loose.links.items():
+            image.change(it.heads[nth], 126, it.heads[link] if link else 0)
+        said = f"extension blocks, {loose.wiped} wiped, links {loose.links}"
+        there = placed(loose.parts, 293)
+        state = f"broken {293 - len(there)}" if len(there) < 293 else "doubtful"
+        held = b"".join(it.data[BLOCK * there[at] :][:BLOCK] if at in there else bytes(BLOCK) for at in range(max(there) + 1))[:150_000]
+        room.report.same(said, taken(room, image), Taken(3, {"wide": state}, {"wide": held}))
+        rest = sorted({*(it.heads[nth] for nth in loose.wiped), *it.blocks} - {it.blocks[number] for number in there.values()})
+        room.report.same(f"{said}: what belongs to nothing", unaccounted(room), rest)
+
+
+def put_right(room: Room) -> None:
+    """The header of an entry, of which a bit of a type or of its own number is another one, is doubtful, and nothing is lost."""
+    for kind in KINDS:
+        files = filled(room, "fields.adf", *kind)
+        good, whole = Volume(room.content("fields.adf")), {it: "whole" for it in files}
+        for name, path in (("long", "Docs/long"), ("text", "Docs/Deep/text"), ("Deep", "Docs/Deep/"), ("Docs", "Docs/")):
+            block = good.header(name)
+            for at, bit in ((0, 0), (0, 3), (0, 31), (1, 1), (1, 9), (1, 30), (127, 0), (127, 2), (127, 31)):
+                image = Volume(good.data)
+                image.put(block, at, image.long(block, at) ^ 1 << bit)
+                said = f"bit {bit} of long {at} of {name} {kind}"
+                room.report.same(said, taken(room, image), Taken(3, {**whole, path: "doubtful"}, files))
+                texts = room.run("extract", "--damaged", "--list", "damaged.adf").texts
+                reason = f"adf_serve: '{path.removesuffix('/')}' is doubtful: block {block} has a wrong checksum".encode()
+                room.report.same(f"{said}: why", (doubts_told(texts), unaccounted(room)), ([reason], []))
+
+
+def not_put_right(room: Room) -> None:
+    """Two wrong fields, a field and another long, a field with a right checksum, a name that is not valid or a place of another directory:
+    the entry stays lost."""
+    for kind in KINDS:
+        files = filled(room, "fields.adf", *kind)
+        good = Volume(room.content("fields.adf"))
+        block, docs = good.header("Deep"), good.header("Docs")
+        files = {"lost+found/text" if it == "Docs/Deep/text" else it: data for it, data in files.items()}
+        found = {it: "found whole" if it.startswith("lost+found/") else "whole" for it in files}
+        longs = {0: 3, 1: block ^ 1, 127: 6, 90: 1, 5: good.long(block, 5) ^ 1, 125: good.long(docs, 125), 108: 0}
+        rows = [(0, 1), (0, 127), (1, 127), (0, 1, 127), (0, 90), (1, 90), (127, 90), (0, 5), (1, 5), (127, 5), (0, 125), (0, 108), (1, 108), (127, 108)]
+        for row in rows:
+            image = Volume(good.data)
+            for at in row:
+                image.put(block, at, longs[at])
+            if 125 in row or 108 in row:
+                # (the checksum comes right with the due field)
+                image.put(block, 5, image.long(block, 5) - image.sum(block) + longs[row[0]] - good.long(block, row[0]))
+            path = f"Docs/block-{block}" if 108 in row else "Docs/Deep"
+            room.report.same(f"longs {row} of a directory {kind}", taken(room, image), Taken(3, {**found, path: "lost"}, files))
+        for at in (0, 1, 127):
+            image = Volume(good.data)
+            image.change(block, at, longs[at])
+            room.report.same(f"long {at} of a directory with its checksum {kind}", taken(room, image), Taken(3, {**found, "Docs/Deep": "lost"}, files))
+
+
+def data_like_a_header(room: Room) -> None:
+    """The bytes of an FFS file that look like a header with one wrong field stay as they are."""
+    files = filled(room, "like.adf", "--ffs")
+    image = Volume(room.content("like.adf"))
+    block = image.pointers(image.header("top"))[2]
+    image.put_all(block, 0, [HEADER, block])
+    image.put_all(block, 127, [FILE])
+    image.data[BLOCK * block + 432 : BLOCK * block + 435] = b"\2no"
+    image.settle(block)
+    image.data[BLOCK * block : BLOCK * block + 4] = b"last"
+    image.put(image.header("text"), 1, 9)
+    files["top"] = files["top"][:1024] + bytes(image.data[BLOCK * block : BLOCK * (block + 1)])[: len(files["top"]) - 1024]
+    wanted = {**{it: "whole" for it in files}, "Docs/Deep/text": "doubtful"}
+    room.report.same("data that looks like a header", taken(room, image), Taken(3, wanted, files))
 
 
 def salvage(room: Room) -> None:
@@ -1232,6 +1467,7 @@ def salvage(room: Room) -> None:
         tried.cut_chains()
         tried.shared_block()
         tried.lost_extension()
+        tried.unused_page()
         tried.noted()
 
 
@@ -1634,7 +1870,7 @@ def deleted_entries(room: Room) -> None:
 
 def main(words: List[str]) -> int:
     random.seed(3)
-    parts = (named_images, directories, strange_names, listed, other_files, next_commands, filler_blocks, long_paths_of_fillers, largest_filled, drawn_fillers, parallel, accepted_objects, refused_objects, shown_values, texts_told, bounded, many_faults, tangled_disks, other_kinds, model, longs_told, salvage, rows, deleted_entries, damages)
+    parts = (named_images, directories, strange_names, listed, other_files, next_commands, filler_blocks, long_paths_of_fillers, largest_filled, drawn_fillers, parallel, accepted_objects, refused_objects, shown_values, texts_told, bounded, many_faults, tangled_disks, other_kinds, model, longs_told, salvage, salvaged_fillers, found_by_numbers, lowest_by_number, loose_extensions, put_right, not_put_right, data_like_a_header, rows, deleted_entries, damages)
     return try_all(words, Room, *parts)
 
 

@@ -15,7 +15,7 @@ import json
 import sys
 from collections import defaultdict
 from pathlib import Path
-from typing import Dict, FrozenSet, Iterator, List, NamedTuple, Optional, Set, Tuple
+from typing import Dict, FrozenSet, Iterable, Iterator, List, NamedTuple, Optional, Set, Tuple
 
 sys.dont_write_bytecode = True
 
@@ -37,19 +37,23 @@ class Rules(NamedTuple):
     capped: bool = False
     # A block that an earlier pointer of the file named, and that was not its data there, may be there at a later one.
     again: bool = False
-    # Of a root with the right types all 25 longs for bitmap blocks name one, of another root none. (On the pages, as many as are used.)
-    stale: bool = False
     # Deleted entries claim no block and are counted in a line of their own.
     deleted: bool = True
     # Blocks that are used and belong to nothing are counted in the last line.
     unaccounted: bool = True
     # In OFS data blocks whose header is gone become a file, and in FFS extension blocks with what they name.
     headless: bool = True
+    # In OFS a block that neither a pointer nor a link names is there if a data block with a right checksum says that it is that one.
+    numbered: bool = False
+    # In FFS extension blocks to which no link leads belong to the file that they name.
+    chained: bool = False
+    # A wrong type or own number of a header is put right where all else is.
+    mended: bool = False
 
 
 PAGE = Rules()
 # What the program does with files and used blocks.
-NOW = Rules(links=True, typed=True, capped=True, again=True, stale=True)
+NOW = Rules(links=True, typed=True, capped=True, again=True, numbered=True, chained=True, mended=True)
 # What stands on standard error of an FFS disk.
 NO_SUMS = b"adf_serve: the data blocks of this FFS disk have no checksums: 'whole' means that every pointer and header is right\n"
 # Why entries are doubtful or cut short.
@@ -58,10 +62,13 @@ REASONS = {
     "comment": "the comment in its header is too long",
     "hole": "block {} could not be read",
     "shared": "block {} is in '{}' too",
+    "filler": "block {} holds a filler",
     "field": "block {} has a wrong field",
     "gone": "its header is gone, and it is made of the data blocks that name it",
     "cut": "incomplete files may have at most four times the bytes of the image in all",
 }
+# The texts of known fillers: of Greaseweazle's host tools, and of a PC.
+FILLERS = (b"-=[BAD SECTOR]=-", b"\xf6")
 # What stands on standard error before the numbers of the blocks that are used and belong to nothing.
 HEADING = b"adf_serve: blocks in use that belong to no reported entry:\n"
 
@@ -149,6 +156,11 @@ def emptied(data: bytes, holes: FrozenSet[int]) -> bytes:
     return b"".join(b"\0\0\0\1" + bytes(BLOCK - 4) if it in holes else data[BLOCK * it : BLOCK * (it + 1)] for it in range(-(-len(data) // BLOCK)))
 
 
+def is_filler(data: bytes) -> bool:
+    """Whether these bytes are the text of a filler from end to end, from some byte of it on."""
+    return any(data in text * (2 + len(data) // len(text)) for text in FILLERS)
+
+
 class Headers(Image):
     """An image, and which of its blocks are headers."""
 
@@ -169,6 +181,19 @@ class Headers(Image):
     def is_directory(self, block: int) -> bool:
         return self.long(block, 127) == DIRECTORY
 
+    def mend(self, block: int) -> None:
+        """Gives the header of an entry its due type or own number, if that is its one wrong field and all longs would add up to 0 with it.
+        The checksum stays as wrong as it was."""
+        dues = {0: (HEADER,), 1: (block,), 127: (FILE, DIRECTORY)}
+        wrong, excess = [at for at, values in dues.items() if self.long(block, at) not in values], self.sum(block)
+        if len(wrong) == 1 and self.has_name(block) and (self.long(block, wrong[0]) - excess) % 2**32 in dues[wrong[0]]:
+            self.put(block, wrong[0], self.long(block, wrong[0]) - excess)
+            self.put(block, 5, self.long(block, 5) + excess)
+
+    def holds_filler(self, block: int) -> bool:
+        """Whether the bytes for a file in a data block are a filler: behind 24 bytes in OFS, and all in FFS."""
+        return is_filler(bytes(self.data[BLOCK * (block + 1) - self.room : BLOCK * (block + 1)]))
+
     def is_any_data(self, block: int) -> bool:
         """An OFS data block of some file."""
         return self.long(block, 0) == DATA and self.long(block, 2) > 0 and self.is_summed(block)
@@ -183,6 +208,14 @@ class Headers(Image):
             if self.long(header, 2) == ffs != ofs:
                 return b"DOS\1"
         return None
+
+
+def mended(data: bytes, blocks: Iterable[int]) -> bytes:
+    """The image with the fields of these headers that can be put right."""
+    disk = Headers(data)
+    for block in blocks:
+        disk.mend(block)
+    return bytes(disk.data)
 
 
 class Disk(Headers):
@@ -278,29 +311,23 @@ class Owners(Model):
 
 
 class Account(Disk):
-    """What has to be told of an image with these holes. It is accepted only where the root leads to none of them."""
+    """What has to be told of an image with these holes. It is accepted only where the root leads to none of them. With a list of unread
+    blocks it is accepted only where no file has a data block that holds a filler either; there, and in an image that is refused, a
+    filler may stand in place of what a program could not read, so that the file is doubtful."""
 
-    def __init__(self, data: bytes, rules: Rules, holes: FrozenSet[int] = frozenset()) -> None:
+    def __init__(self, data: bytes, rules: Rules, holes: FrozenSet[int] = frozenset(), listed: bool = False) -> None:
         data = emptied(data, holes)
         model = Model(data)
         self.is_accepted = not model.all_faults() and not holes & {block for block, _ in model.reached}
-        super().__init__(data if self.is_accepted else with_kind(data))
+        if self.is_accepted and listed:
+            disk = Headers(data)
+            self.is_accepted = not any(role.what == "data" and disk.holds_filler(block) for block, role in model.reached)
+        self.fillers = listed or not self.is_accepted
         self.rules, self.holes = rules, holes
-        shown = Model(bytes(self.data))
-        self.bitmap = Bitmap(self, shown)
-        self.pages = self.bitmap_blocks()
-        self.reached_blocks = {block for block, _ in shown.reached}
-        self.reached_entries = {block for block, role in shown.reached if role.what == "entry"}
-        self.deleted = {it for it in self.sound if self.is_deleted(it)} if rules.deleted else set()
-        self.places: Dict[int, List[Place]] = defaultdict(list)
-        self.told = self.headers_of_accepted() if self.is_accepted else self.headers()
-        self.lost = [it for it in self.places if it not in self.told and it not in self.sound]
-        kept = self.told if self.is_accepted else self.sound - self.deleted
-        self.intact = {it: blocks for it in kept if (blocks := self.sound_blocks(it)) is not None}
-        self.users: Dict[int, Set[int]] = defaultdict(set)
-        for file, blocks in self.intact.items():
-            for block in [*blocks.heads, *blocks.data]:
-                self.users[block].add(file)
+        self.read(data if self.is_accepted else with_kind(data))
+        if rules.mended and not self.is_accepted:
+            # A lost entry that no sound file uses is put right where that can be.
+            self.read(mended(bytes(self.data), [it for it in self.lost if not self.users[it]]))
         self.given: Dict[int, int] = {}
         self.bytes: Dict[int, bytes] = {}
         self.left = 4 * len(self.data)
@@ -311,6 +338,25 @@ class Account(Disk):
         self.lists: Dict[int, List[Tuple[int, int]]] = {}
         self.passed: Set[int] = set()
 
+    def read(self, data: bytes) -> None:
+        """Finds the headers of the image with these bytes, and the blocks of its sound files."""
+        super().__init__(data)
+        shown = Model(bytes(self.data))
+        self.bitmap = Bitmap(self, shown)
+        self.pages = self.bitmap_blocks()
+        self.reached_blocks = {block for block, _ in shown.reached}
+        self.reached_entries = {block for block, role in shown.reached if role.what == "entry"}
+        self.deleted = {it for it in self.sound if self.is_deleted(it)} if self.rules.deleted else set()
+        self.places: Dict[int, List[Place]] = defaultdict(list)
+        self.told = self.headers_of_accepted() if self.is_accepted else self.headers()
+        self.lost = [it for it in self.places if it not in self.told and it not in self.sound]
+        kept = self.told if self.is_accepted else self.sound - self.deleted
+        self.intact = {it: blocks for it in kept if (blocks := self.sound_blocks(it)) is not None}
+        self.users: Dict[int, Set[int]] = defaultdict(set)
+        for file, blocks in self.intact.items():
+            for block in [*blocks.heads, *blocks.data]:
+                self.users[block].add(file)
+
     # ---- which headers are told
 
     def has_root(self) -> bool:
@@ -318,9 +364,8 @@ class Account(Disk):
         return (self.long(self.root, 0), self.long(self.root, 127)) == (HEADER, ROOT)
 
     def bitmap_blocks(self) -> Set[int]:
-        if self.rules.stale:
-            return {self.long(self.root, it) for it in range(79, 104)} if self.has_root() else set()
-        return set(self.bitmap.pages)
+        """The bitmap blocks that the root names, as many as the volume needs, where it has the types of a root."""
+        return set(self.bitmap.pages) if self.has_root() else set()
 
     def is_deleted(self, block: int) -> bool:
         return self.bitmap.is_trusted and block not in self.reached_blocks and self.bitmap.is_free(block)
@@ -384,12 +429,15 @@ class Account(Disk):
         return self.long(file, 4) == (data[0] if data else 0)
 
     def is_whole(self, file: int) -> bool:
-        """Only this file names its blocks, and none is a hole. A reached one keeps them against those to which nothing leads."""
+        """Only this file names its blocks, none is a hole, and where fillers count no data block holds one. A reached one keeps its blocks
+        against those to which nothing leads."""
         if file not in self.intact:
             return False
         users = [self.users[it] for part in self.intact[file] for it in part]
         if file in self.reached_entries:
             users = [it & self.reached_entries for it in users]
+        if self.fillers and any(self.holds_filler(it) for it in self.intact[file].data):
+            return False
         return all(it == {file} for it in users) and not any(it in self.holes for part in self.intact[file] for it in part)
 
     # ---- files that are not
@@ -409,8 +457,9 @@ class Account(Disk):
         right = sum(self.long(block, at) == value for at, value in ((0, LIST), (1, block), (125, file), (127, FILE)))
         return right == 4 or right == 3 and not self.is_summed(block)
 
-    def passed_blocks(self, file: int, needed: int) -> List[int]:
-        """The header and the extension blocks after it, as far as so many data blocks need them. A block is passed once, by one file."""
+    def passed_blocks(self, file: int, needed: int) -> List[Optional[int]]:
+        """The header and the extension blocks after it, as far as so many data blocks need them, with nothing for a missing one. A block is
+        passed once, by one file."""
         heads = [file]
         while len(heads) <= needed // 72:
             after = self.long(heads[-1], 126)
@@ -420,15 +469,30 @@ class Account(Disk):
                 break
             heads.append(after)
             self.passed.add(after)
-        return heads
+        return self.with_loose(file, heads, max(1, -(-needed // 72))) if self.rules.chained and not self.ofs else [*heads]
+
+    def with_loose(self, file: int, heads: List[int], total: int) -> List[Optional[int]]:
+        """These pointer blocks of a file that needs so many in all, and behind them its loose extension blocks, each chain of them behind
+        missing pointer blocks: before the end of the file as many as fit in, and before any other one."""
+        filled: List[Optional[int]] = [*heads]
+        for chain in self.chains_of([it for it in self.own_extensions(file) if it not in self.passed]):
+            missing = 1 if self.long(chain[-1], 126) else total - len(filled) - len(chain)
+            if 0 <= missing <= total - len(filled) - len(chain):
+                filled += [*[None] * missing, *chain]
+                self.passed.update(chain)
+        return filled
+
+    def own_extensions(self, file: int) -> List[int]:
+        """The blocks that have all fields of an extension block of a file, and a right checksum."""
+        return [it for it in self.inside if self.is_extension(file, it) and self.is_summed(it)]
 
     def named_by_pointers(self, file: int, needed: int) -> Dict[int, int]:
         """The block that the pointer for each data block names, where that is within a count."""
         named = {}
         for q, head in enumerate(self.passed_blocks(file, needed)):
-            count = self.long(head, 2)
+            count = self.long(head, 2) if head is not None else 0
             count = min(count, 72) if self.rules.capped or count <= 72 else 0
-            named.update({72 * q + it: self.long(head, 77 - it) for it in range(count)})
+            named.update({72 * q + it: self.long(head, 77 - it) for it in range(count) if head is not None})
         return named
 
     def piece_of(self, file: int, k: int, block: Optional[int]) -> bool:
@@ -452,7 +516,21 @@ class Account(Disk):
                     self.given[block] = file
             if not self.rules.again:
                 passed.add(named.get(k, 0))
+        if self.rules.numbered and self.ofs:
+            for k, block in self.by_number(file).items():
+                if k < needed and k not in there:
+                    there[k] = block
+                    self.given[block] = file
         return needed, there
+
+    def by_number(self, file: int) -> Dict[int, int]:
+        """The OFS data blocks of a file with right checksums that are not given away, by their numbers in it; of one number the lowest."""
+        found: Dict[int, int] = {}
+        for block in self.inside:
+            number = self.long(block, 2)
+            if number and self.is_summed(block) and self.piece_of(file, number - 1, block):
+                found.setdefault(number - 1, block)
+        return found
 
     def broken_state(self, file: int) -> str:
         """The state of a file that is not whole; keeps its bytes."""
@@ -534,9 +612,14 @@ class Account(Disk):
         return {header: self.numbered(blocks) for header, blocks in used}
 
     def numbered(self, blocks: List[int]) -> List[Tuple[int, int]]:
-        """The extension blocks of one file with their numbers. One directly before another names it. Before the first of each chain one
-        pointer block is missing, the header or another. Chains at the end of the file come last, and else the one with the lower first block
-        comes first."""
+        """The extension blocks of one file with their numbers. Before the first of each chain one pointer block is missing, the header or
+        another."""
+        chains = self.chains_of(blocks)
+        return [(sum(1 + len(it) for it in chains[:k]) + 1 + nth, block) for k, chain in enumerate(chains) for nth, block in enumerate(chain)]
+
+    def chains_of(self, blocks: List[int]) -> List[List[int]]:
+        """These extension blocks of one file in chains. One directly before another names it. Chains at the end of the file come last, and
+        else the one with the lower first block comes first."""
         after = {it: self.long(it, 126) for it in blocks}
         left, chains = list(blocks), []
         while left:
@@ -547,8 +630,7 @@ class Account(Disk):
                 chain.append(after[chain[-1]])
                 left.remove(chain[-1])
             chains.append(chain)
-        chains.sort(key=lambda it: (after[it[-1]] == 0, it[0]))
-        return [(sum(1 + len(it) for it in chains[:k]) + 1 + nth, block) for k, chain in enumerate(chains) for nth, block in enumerate(chain)]
+        return sorted(chains, key=lambda it: (after[it[-1]] == 0, it[0]))
 
     def listed_state(self, header: int) -> str:
         """The state of a file whose header is gone and some of whose extension blocks are left; keeps its bytes. It is lost if none of its
@@ -635,12 +717,15 @@ class Account(Disk):
         return REASONS["comment"]
 
     def block_reason(self, file: int) -> str:
-        """Why a file with a sound header is doubtful: what is wrong with its pointer blocks, then with its data blocks, and then the first of
-        all of its blocks that another file has too."""
+        """Why a file with a sound header is doubtful: what is wrong with its pointer blocks, then with its data blocks, then the first data
+        block that holds a filler, and then the first of all of its blocks that another file has too."""
         heads, wrong = self.chain(file)
         if wrong is None and self.ofs:
             wrong = self.data_reason(file)
-        elif wrong is None:
+        if wrong is None and self.fillers:
+            filled = [block for _, block in sorted(self.there[file].items()) if self.holds_filler(block)]
+            wrong = REASONS["filler"].format(filled[0]) if filled else None
+        if wrong is None and not self.ofs:
             wrong = self.shared_reason(file, [it for head in heads for it in [head, *(self.long(head, 77 - at) for at in range(self.long(head, 2)))]])
         return wrong or REASONS["field"].format(file)
 
@@ -744,7 +829,8 @@ class Account(Disk):
 
     def unaccounted(self, entries: List[Entry]) -> List[int]:
         """The blocks that are used and belong to nothing. A whole file has all its blocks; another one those that are written, and the
-        extension blocks that its header leads to, or if these may be any blocks, those that full lists lead to."""
+        extension blocks that its header leads to, or if these may be any blocks, those that full lists lead to, and in FFS those that name
+        it."""
         known = {self.root, *self.bitmap.pages, *(it.header for it in entries), *self.given}
         for it in entries:
             known |= {block for part in self.intact[it.header] for block in part} if it.state == "whole" else set()
@@ -753,6 +839,7 @@ class Account(Disk):
                 needed = min(-(-self.long(it.header, 81) // self.room), self.blocks)
                 heads = self.pointer_blocks(it.header)
                 known |= set(heads if self.rules.typed else heads[: 1 + needed // 72])
+                known |= set(self.own_extensions(it.header)) if self.rules.chained and not self.ofs else set()
         return [it for it in self.inside if it not in known and it not in self.holes and self.is_used(it)]
 
     def is_used(self, block: int) -> bool:

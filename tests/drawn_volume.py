@@ -194,7 +194,7 @@ class Drawer(Image):
 
     def entry(self, directory: int, name: bytes, ends: Dict[int, int]) -> Tuple[int, bool]:
         """Draws a file or a directory, first or last in its chain."""
-        size = self.chance.choice([0, 1, 487, 488, 489, 511, 512, 513, 5_000, 36_864, 36_865, 60_000]) if self.chance.random() < 0.5 else self.chance.randrange(3_000)
+        size = self.file_size()
         is_directory = self.chance.random() < 0.3
         blocks = self.blocks_of(0 if is_directory else size)
         key = blocks[0]
@@ -209,6 +209,12 @@ class Drawer(Image):
             self.put_bytes(key, blocks[1:], self.chance.randbytes(size))
         self.chain(directory, slot_of(name), key, ends)
         return key, is_directory
+
+    def file_size(self) -> int:
+        """The number of bytes of a file."""
+        if self.chance.random() < 0.5:
+            return self.chance.choice([0, 1, 487, 488, 489, 511, 512, 513, 5_000, 36_864, 36_865, 60_000])
+        return self.chance.randrange(3_000)
 
     def blocks_of(self, size: int) -> List[int]:
         """The blocks of a file: its header, its data and its extension blocks."""

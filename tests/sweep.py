@@ -7,7 +7,8 @@ The floppies are drawn in Python, in both formats. Each gets one damage: a flipp
 a block of zeros, or no root. The expected account comes from the floppy as it was: each file has exactly one line, a file that was
 not hit is whole with its bytes, and the status is the one that `check` asks for. The blocks that are used and belong to nothing
 are those of tests/disk_model.py. Another kind of disk in the boot block is one more damage of this sort. Others are only counted: no
-boot blocks, a file that is cut short, and sectors that a copying program could not read.
+boot blocks, a file that is cut short, and sectors that a copying program could not read. On a few floppies with large files one or two
+extension blocks of a file are gone, and the bytes that are left are expected.
 
 A table says how much is saved, for each damage and format: how many of a hundred bytes, of all files and of the blocks that are as
 they were, are written at their place; the same of `unadf`, if it is installed; how many files have no line; and how many are called
@@ -16,7 +17,8 @@ They are the same in each run.
 
 Files that end early follow, with `--blocks`: what is behind their ends is missing in each file that it belongs to.
 
-Then come images that tests/fuzz.py damages at random, and accepted ones with headers that nothing names, 100 or N.
+Then come images that tests/fuzz.py damages at random, and accepted ones with headers that nothing names, 100 or N. Half of them have
+data blocks that hold a filler.
 tests/disk_model.py says what `extract --damaged` has to print and to write, also where some blocks could not be read (`--bad`), what
 `map` and `where` print of those that are accepted, and `where` of those that are refused. `--page` compares with the pages alone, and
 so shows where the program does more or less. `--keep` keeps the images that show a fault.
@@ -30,14 +32,15 @@ import re
 import shutil
 import sys
 from functools import partial
+from itertools import combinations_with_replacement
 from multiprocessing import Pool
 from pathlib import Path
-from typing import Callable, Dict, Iterator, List, Mapping, NamedTuple, Optional, Sequence, Set, Tuple, TypeVar
+from typing import Callable, Dict, Iterator, List, Mapping, NamedTuple, Optional, Sequence, Set, Tuple, Type, TypeVar
 
 sys.dont_write_bytecode = True
 
 from all_faults_model import Model, lines_of
-from disk_model import NO_SUMS, NOW, PAGE, Account, Bitmap, Disk, Headers, Owners, Rules, rest_of, rest_text, rest_told, runs_of, texts_told
+from disk_model import FILLERS, NO_SUMS, NOW, PAGE, Account, Bitmap, Disk, Headers, Owners, Rules, rest_of, rest_text, rest_told, runs_of, texts_told
 from drawn_volume import Drawer
 from fuzz import FEWEST, LARGEST, PER_BASE, Base, Damaged, a_chain, a_name, a_parent, a_pointer, a_size, base_of, damaged, told_of
 from harness import BLOCK, FILE, Image, Ran, Report, Room, host_name, in_memory, processors, program_of
@@ -51,29 +54,42 @@ TRACK = 11
 ROLES = ["root", "directory", "file", "extension", "bitmap", "data"]
 # Longs of a block that have a meaning in one role at least.
 TELLING = [*range(0, 6), 6, 7, 30, 75, 76, 77, 78, 79, 80, 81, 82, 83, 104, 105, 106, 107, 108, 109, 124, 125, 126, 127]
-# Longs of the header of a file, of a directory and of an extension block, without which not all of it can be told: types, own number,
-# count, pointers, size, directory or file, next extension block.
-CRUCIAL = {"file": {0, 1, 2, *range(6, 78), 81, 125, 126, 127}, "directory": {0, 1, 125, 127}, "extension": {0, 1, 2, *range(6, 78), 125, 126, 127}}
+# Longs of a header without which not all of its entry can be told: types and own number, of which one alone is put right; size and
+# directory; in FFS count, pointers and next extension block. Longs of which an extension block has more than one right.
+FIXED, LISTED, KNOWN = {0, 1, 127}, {2, *range(6, 78), 126}, {0, 1, 125, 127}
+CRUCIAL = {"file": {81, 125}, "directory": {125}}
 NAME = range(108, 116)
 LINE = re.compile(r"(found )?(?:(whole|doubtful|lost|broken [0-9]+) )?(.+)")
 LETTERS = {"boot": "B", "root": "R", "bitmap": "M", "directory": "D", "file": "F", "extension": "X", "data": "#", "lost": "L", "free": "."}
 LAST = re.compile(r"(unaccounted|deleted) [1-9][0-9]*")
 # How many of a hundred bytes that are there have to be saved, of all floppies of a format.
-LEAST = {"OFS": 99.0, "FFS": 97.0}
+LEAST = {"OFS": 99.9, "FFS": 97.0}
 
 
 # ---- floppies
 
 
 class Distinct(Drawer):
-    """Draws a volume in which no two entries have one name."""
+    """Draws a volume in which no two entries have one name. It has at most so many entries, and at least so many of each kind."""
 
     names = 0
+    most = 40
+    least = {"directory": 3, "file": 10, "extension": 1}
 
     def name(self) -> bytes:
         self.names += 1
         front = bytes(self.chance.choices(b"abcDEF.-0189_%\\\x9b\xe4\xd6", k=self.chance.choice([0, 1, 4, 20])))
         return b"%bn%d" % (front, self.names)
+
+
+class Large(Distinct):
+    """Draws few files, some of them with several extension blocks."""
+
+    most = 20
+    least = {"directory": 1, "file": 4, "extension": 6}
+
+    def file_size(self) -> int:
+        return self.chance.randrange(60_000, 300_000) if self.chance.random() < 0.3 else self.chance.randrange(3_000)
 
 
 class Floppy(NamedTuple):
@@ -91,6 +107,13 @@ class Floppy(NamedTuple):
 
     def files(self) -> List[int]:
         return [it for it in self.paths if it in self.parts]
+
+    def extensions(self, key: int) -> List[int]:
+        """The extension blocks of a file in their order."""
+        image, blocks = Image(self.data), [key]
+        while image.long(blocks[-1], 126):
+            blocks.append(image.long(blocks[-1], 126))
+        return blocks[1:]
 
     def content(self, image: Image, key: int) -> bytes:
         """The bytes of a file in this image, by the blocks that it has on the floppy."""
@@ -121,18 +144,18 @@ def floppy_of(data: bytes) -> Floppy:
     )
 
 
-def floppies(ofs: bool, count: int) -> Iterator[Floppy]:
+def floppies(ofs: bool, count: int, kind: Type[Distinct] = Distinct) -> Iterator[Floppy]:
     """So many drawn floppies that have blocks of each role, and a bitmap that is valid."""
     seed = 0
     while count:
         seed += 1
-        drawer = Distinct(random.Random(f"floppy {seed} {ofs}"), FLOPPY, ofs)
-        drawer.draw(40)
+        drawer = kind(random.Random(f"floppy {seed} {ofs}"), FLOPPY, ofs)
+        drawer.draw(kind.most)
         data = bytes(drawer.data)
         if drawer.long(drawer.root, 78) == 0:
             continue
         floppy = floppy_of(data)
-        if len(floppy.roles["directory"]) >= 3 and len(floppy.roles["file"]) >= 10 and floppy.roles["extension"]:
+        if all(len(floppy.roles[role]) >= least for role, least in kind.least.items()):
             assert not lines_of(data), f"floppy {seed} is not accepted"
             count -= 1
             yield floppy
@@ -203,6 +226,16 @@ def rootless(floppy: Floppy) -> Iterator[Damage]:
     yield Damage("no root and no boot blocks", {it: bytes(BLOCK) for it in (0, 1, root)}, True)
     yield Damage("no root and no bitmap", {it: bytes(BLOCK) for it in (root, page)}, True)
     yield Damage("a bitmap block for the root", {root: floppy.data[BLOCK * page : BLOCK * (page + 1)]}, True)
+
+
+def gone_extensions(floppy: Floppy) -> Iterator[Damage]:
+    """One or two extension blocks of each file are zeros or noise."""
+    for file in floppy.files():
+        blocks = floppy.extensions(file)
+        for one, other in combinations_with_replacement(blocks, 2):
+            hit = sorted({one, other})
+            chance = random.Random(f"extension blocks {hit}")
+            yield Damage(f"no extension blocks {hit}", {it: chance.choice([bytes(BLOCK), chance.randbytes(BLOCK)]) for it in hit})
 
 
 def other_kind(floppy: Floppy) -> Iterator[Damage]:
@@ -322,13 +355,13 @@ class Told:
         return list(dict.fromkeys(line for name in self.names(key) for line in self.by_name.get(name, [])))
 
     def file(self, key: int) -> None:
-        """A file has one line, with the state that its blocks leave it. What is whole or doubtful has the bytes of its blocks."""
+        """A file has one line, with the state that its blocks leave it, and the bytes of the blocks that are left."""
         path, lines = self.floppy.paths[key], self.lines_for(key)
         assert len(lines) == 1, f"{path} has {len(lines)} lines: {lines[:3]}"
         line, wanted = lines[0], self.state(key)
         assert line.state == wanted if wanted else line.state not in ("", "whole"), f"{path}: {line} where {wanted} is expected"
-        if wanted in ("whole", "doubtful"):
-            assert self.content(line) == self.floppy.content(self.image, key), f"{path} has other bytes"
+        if wanted:
+            assert self.content(line) == self.left(key), f"{path} has other bytes"
         if wanted and self.damage.hit.keys() <= self.floppy.own[key]:
             assert not line.found, f"its directory leads to {path}: {line}"
 
@@ -336,13 +369,35 @@ class Told:
         """The state of a file after this damage; nothing where it may be any but whole."""
         hit = self.floppy.own[key] & self.damage.hit.keys()
         headers = hit - set(self.floppy.parts[key])
-        if any(self.is_crucial(it, "file" if it == key else "extension") for it in headers):
+        # (of three that are gone, two may be side by side before one whose place is not known)
+        if any(self.is_crucial(it, "file" if it == key else "extension") for it in headers) or len(headers - {key}) > 2:
             return ""
         if not hit or not self.floppy.ofs and not headers:
             # (no checksum covers a data block of FFS)
             return "whole"
-        missing = sum(1 for it in hit - headers if self.floppy.ofs and self.changed(it) & {0, 1, 2})
-        return f"broken {missing}" if missing else "doubtful"
+        missing = self.missing(key)
+        return f"broken {len(missing)}" if missing else "doubtful"
+
+    def missing(self, key: int) -> Set[int]:
+        """The numbers of the data blocks of a file that are missing: in OFS those that do not say that they are those; in FFS those that
+        an extension block named which is gone."""
+        if self.floppy.ofs:
+            return {at for at, it in enumerate(self.floppy.parts[key]) if it in self.damage.hit and self.changed(it) & {0, 1, 2}}
+        firsts = [72 * at for at, it in enumerate(self.floppy.extensions(key), 1) if it in self.damage.hit and self.is_gone(it)]
+        return {at for first in firsts for at in range(first, min(first + 72, len(self.floppy.parts[key])))}
+
+    def left(self, key: int) -> bytes:
+        """The bytes of a file up to the last data block that is left, with zeros where blocks are missing."""
+        room, missing = Image(self.floppy.data).room, self.missing(key)
+        data = bytearray(self.floppy.content(self.image, key))
+        for at in missing:
+            data[room * at : room * (at + 1)] = bytes(len(data[room * at : room * (at + 1)]))
+        there = [at for at in range(len(self.floppy.parts[key])) if at not in missing]
+        return bytes(data[: room * (there[-1] + 1)]) if there else b""
+
+    def is_gone(self, block: int) -> bool:
+        """Whether nothing says any more that a block is an extension block."""
+        return len(self.changed(block) & KNOWN) > 1
 
     def changed(self, block: int) -> Set[int]:
         """The longs that are other ones than before."""
@@ -350,10 +405,12 @@ class Told:
         return {at for at in range(128) if sound.long(block, at) != self.image.long(block, at)}
 
     def is_crucial(self, block: int, role: str) -> bool:
-        """Whether something differs in a header without which not all of it can be told."""
-        changed = self.changed(block)
-        is_named = role == "extension" or not changed & set(NAME) or Headers(self.image.data).has_name(block)
-        return bool(changed & CRUCIAL[role]) or not is_named
+        """Whether something differs in a header without which not all of it can be told. In OFS the data blocks tell all that pointers do."""
+        changed, listed = self.changed(block), set() if self.floppy.ofs or role == "directory" else LISTED
+        if role == "extension":
+            return bool(changed & listed) and not self.is_gone(block)
+        is_named = not changed & set(NAME) or Headers(self.image.data).has_name(block)
+        return bool(changed & (CRUCIAL[role] | listed | (FIXED if len(changed) > 1 else set()))) or not is_named
 
     def content(self, line: Line) -> bytes:
         return Path("out", line.path).read_bytes()
@@ -451,6 +508,8 @@ KINDS: List[Tuple[str, Damages, int, int]] = [
 ]
 # The kinds for which no account is expected.
 COUNTED = ("no boot blocks", "cut short", "bad sectors")
+# The one damage of floppies with large files, which counts by itself alone.
+LARGE = "extension blocks, large files"
 # How many floppies with one damage each are made of a floppy of each format with `--floppies`.
 PER_PAIR = 83
 
@@ -468,11 +527,18 @@ def jobs_of(bases: Sequence[Floppy], is_all: bool, is_many: bool) -> List[Job]:
     return jobs
 
 
+def large_jobs(bases: Sequence[Floppy], first: int, most: int) -> List[Job]:
+    """Damages of floppies with large files, of which the first has this number. Each has at most so many."""
+    chance = random.Random("large")
+    return [Job(LARGE, first + number, it) for number, floppy in enumerate(bases) for it in some(gone_extensions(floppy), most, chance)]
+
+
 def swept(report: Report, program: Path, is_all: bool, many: int, most: int, kept: Optional[Path]) -> None:
     """Each title is one check, with the number of its floppies."""
     count = 3 if is_all else -(-many // PER_PAIR) or 1
-    bases = [*floppies(True, count), *floppies(False, count)]
-    jobs = jobs_of(bases, is_all, many > 0)
+    bases, large = ([*floppies(True, each, kind), *floppies(False, each, kind)] for each, kind in ((count, Distinct), (-(-count // 4), Large)))
+    jobs = [*jobs_of(bases, is_all, many > 0), *large_jobs(large, len(bases), 40 if is_all else 10)]
+    bases += large
     with Pool(most, BASES.extend, (bases,)) as pool:
         ended = pool.map(partial(tried, program, kept), jobs, 8)
     for title in dict.fromkeys(it.title for it in jobs):
@@ -486,7 +552,7 @@ def saved(report: Report, tallies: Sequence[Tuple[str, str, Tally]]) -> None:
     """Prints how much is saved, and compares it with what has to be."""
     rows: Dict[str, Tally] = {}
     for title, kind, tally in tallies:
-        for name in (f"{title}, {kind}", f"all, {kind}"):
+        for name in [f"{title}, {kind}", *[f"all, {kind}"] * (title != LARGE)]:
             rows[name] = rows.get(name, Tally()).plus(tally)
     for line in table(dict(sorted(rows.items(), key=lambda it: it[0].startswith("all,")))):
         print(line)
@@ -545,7 +611,7 @@ class Compared:
         words = [chance.choice([f"{it}", f" {it}\t# {it + 1}", f"c{it // track // 2}.h{it // track % 2}.s{it % track}\r"]) for it in holes]
         self.room.write("bad.txt", "\n".join(["# what could not be read", "", *words]).encode() + chance.choice([b"", b"\n"]))
         self.words = ["--bad", "bad.txt", "image.adf"]
-        self.account(Account(self.data, self.rules, holes))
+        self.account(Account(self.data, self.rules, holes, True))
 
     def account(self, account: Account) -> None:
         wanted, runs = account.lines(), runs_of(account.rest) if len(account.rest) % 2 else []
@@ -680,6 +746,22 @@ def with_old_headers(base: Base, seed: str, number: int) -> bytes:
     return bytes(image.data)
 
 
+def with_fillers(data: bytes, chance: random.Random) -> bytes:
+    """The image, of which some data blocks hold a filler, from some byte of its text on, and others one but for a byte. A right checksum
+    stays right."""
+    image = Image(data)
+    blocks = sorted({block for block, role in Model(data).reached if role.what == "data"})
+    for block in chance.sample(blocks, min(len(blocks), chance.choice([1, 2, 8]))):
+        text, was_right = chance.choice(FILLERS), image.sum(block) == 0
+        first, start = chance.randrange(len(text)), BLOCK * (block + 1) - image.room
+        image.data[start : BLOCK * (block + 1)] = (text * (2 + BLOCK // len(text)))[first : first + image.room]
+        if chance.random() < 0.2:
+            image.data[chance.randrange(start, BLOCK * (block + 1))] ^= 1
+        if image.ofs and was_right:
+            image.settle(block)
+    return bytes(image.data)
+
+
 class Cut(NamedTuple):
     """A floppy of which only the first bytes are there, so many."""
 
@@ -720,6 +802,8 @@ def fault_of_base(program: Path, seed: str, rules: Rules, kept: Optional[Path], 
         base = base_of(room, seed, number)
         for at in range(number * PER_BASE, (number + 1) * PER_BASE):
             data = {3: with_old_headers, 4: scattered}.get(at % 5, damaged)(base, seed, at)
+            if at % 2 and len(data) % BLOCK == 0 and FEWEST <= len(data) // BLOCK <= LARGEST:
+                data = with_fillers(data, random.Random(f"{seed} fillers {at}"))
             try:
                 Compared(room, data, rules).all()
                 Compared(room, data, rules).bad(random.Random(f"{seed} bad {at}"))

@@ -62,7 +62,7 @@ PARTS = [
 # A pattern of texts, and what to do.
 ADVICE: List[Tuple[str, str]] = [
     (r"in the new image|has its name there|its directory is not there|there is no room", "`extract --damaged --to` writes it to the host"),
-    (r"is \{word\}: |^its header |^block \{block\} (has a wrong|could not be read|is in)|comment in its header", "Compare it with another copy; the files that are `whole` are as they were"),
+    (r"is \{word\}: |^its header |^block \{block\} (has a wrong|could not be read|is in|holds a filler)|comment in its header", "Compare it with another copy; the files that are `whole` are as they were"),
     (r"(is|are) missing \(data|\{missing\}$", "Look for another copy: zeros stand for these bytes"),
     (r"most of a list of names", "Check the files in several lists, or name their directory"),
     (r"^'\{0?\}' names no file", "Look what made the list, as a `find` that found nothing"),
@@ -160,7 +160,7 @@ OF_OUTPUT = ("refused {", "suspect block {", "bitmap block {i}", "data {k} of", 
 STATUSES: List[Tuple[str, str]] = [
     (r"in the new image|has its name there|its directory is not there|there is no room", "3"),
     (r"have no checksums|read as \{read\}|neither OFS|^(OFS|FFS)$", ""),
-    (r"waiting for|turned round|skipped|mounted or being|is \{word\}: |^its header |^block \{block\} (has a wrong|could not be read|is in)|comment in its header|missing \(data|incomplete files may|belong to no reported|it is a (symbolic|note)|it is neither", ""),
+    (r"waiting for|turned round|skipped|mounted or being|is \{word\}: |^its header |^block \{block\} (has a wrong|could not be read|is in|holds a filler)|comment in its header|missing \(data|incomplete files may|belong to no reported|it is a (symbolic|note)|it is neither", ""),
     (r"lists the blocks of one image", "1"),
     (r"a volume has 16|past U\+00FF|no byte of an Amiga|is no protection", "1"),
     (r"not a volume name|has no block|1,024 bytes|line \{number\}|the script has more|^expected \{|^(a keyword|each \$k|a text in quotes|a number\b)|^(a|the|each) .*(\$k|text|line|keyword|bytes)$", "3"),

@@ -632,8 +632,8 @@ enum jip_state {
     JIP_STATE_WHOLE = 2, /* a file, and no other sound file uses one of its blocks; if the root leads to it, no other to which it leads */
     JIP_STATE_BROKEN = 3, /* a file of which some data blocks are missing, or are used by another file too */
     JIP_STATE_LOST = 4, /* an entry with no header to tell: only its name, its header's number and its directory mean something */
-    JIP_STATE_DOUBTFUL = 5, /* a file that lacks no data block but is not whole: a block is damaged, or used by another file too, or the
-                               header is gone, and OFS data blocks name it */
+    JIP_STATE_DOUBTFUL = 5, /* a file that lacks no data block but is not whole: a block is damaged, used by another file too, or holds a
+                               known filler in a refused image, or the header is gone, and OFS data blocks name it */
     JIP_STATE_DOUBTFUL_DIRECTORY = 6 /* a directory whose header has a wrong checksum or too long a comment */
 };
 

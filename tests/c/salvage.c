@@ -143,13 +143,14 @@ static void doubtful(void) {
     EXPECT("close", jip_salvage_close(&s) == JIP_DONE && jip_close(&h) == JIP_DONE);
 }
 
-/* A file whose header has the number of another block is lost; its directory still names it. */
+/* A file whose header has the number of another block and another type is lost; its directory still names it. */
 static void lost(void) {
     jip_handle h = prepared(JIP_FFS);
     jip_salvage s = JIP_CLOSED;
     size_t length;
     const uint32_t header = key_of(&h, "Docs/text");
     uint8_t *image = image_of(&h, &length);
+    image[512 * header + 3] ^= 1;
     image[512 * header + 7] ^= 1;
     EXPECT("open", jip_salvage_open(image, length, &s) == JIP_DONE && jip_salvage_count(&s) == 2);
     const size_t place = place_of(&s, "Docs/text");

@@ -115,7 +115,7 @@ class Role(IntEnum):
 
 class State(IntEnum):
     """How much is left of an entry of a damaged image. A whole file shares no block with another sound file; a doubtful one
-    lacks no block, but one is damaged or shared; of a lost entry nothing is left but its name."""
+    lacks no block, but one is damaged, shared or a filler; of a lost entry nothing is left but its name."""
 
     DIRECTORY = 1
     WHOLE = 2

@@ -93,6 +93,7 @@ class Salvage(unittest.TestCase):
 
     def test_a_lost_header(self) -> None:
         for block in (self.header, *self.data):
+            self.image[512 * block + 3] ^= 1
             self.image[512 * block + 7] ^= 1
         file = self.entry("Docs/text")
         self.assertEqual((file.state, file.header, file.size, file.is_file, file.read()), (jip.State.LOST, self.header, 0, False, b""))

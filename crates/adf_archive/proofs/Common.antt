@@ -1,7 +1,6 @@
 -- The names that most of these proofs cite, passed on from one place. Declares nothing.
 pub use Rattle.adf_archive.specs.Archive.{Archive, IsDetailOf, LeavesOff, TellsArchive, told_in}
 pub use Rattle.adf_archive.specs.Each.{GivesFrom}
-pub use Rattle.adf_archive.specs.Fillers.{RepeatsFrom}
 unfoldable pub use Rattle.adf_archive.specs.Lines.{told_from}
 pub use Rattle.adf_archive.specs.Lines.{shown_line, suspect_line, told_of}
 pub use Rattle.adf_archive.specs.Objects.{found_in, shown_tokens, suspect_tokens, wanted_in}
@@ -16,7 +15,6 @@ pub use Rattle.adf_archive.specs.declared.report.ShownFault.{ShownFault}
 pub use Rattle.adf_archive.specs.declared.suspects.Suspect.{Suspect}
 pub use Rattle.adf_archive.specs.declared.telling.Form.{Form}
 pub use Rattle.adf_archive.specs.declared.telling.Tally.{Tally}
-unfoldable pub use Rattle.adf_block.specs.Image.{bytes_at}
 pub use Rattle.adf_block.specs.Image.{block_count}
 pub use Rattle.adf_block.specs.declared.volume_size.SizeFault.TheVariants.{NotWholeBlocks, TooFewBlocks, TooManyBlocks}
 pub use Rattle.adf_io.proofs.Prefixes.{writes_first, writes_nothing}
@@ -25,14 +23,14 @@ pub use Rattle.ados_faults.specs.Listed.{AreAllFaults, AreMarks, Marks, ShowsOth
 pub use Rattle.ados_model.proofs.Nodes.{content_in, some_in}
 pub use Rattle.ados_model.specs.Stands.{Duty, Stands}
 pub use Rattle.ados_model.specs.Keys.{HasKey}
-pub use Rattle.ados_model.specs.Tree.{Content, Tree, content_at, data_size, data_start, name_of, parent_of, root}
+pub use Rattle.ados_model.specs.Tree.{Content, Tree, content_at, name_of, parent_of, root}
 pub use Rattle.ados_model.specs.declared.fault.VolumeFault.{VolumeFault}
 pub use Rattle.ados_volume.specs.Owners.{Owns}
 pub use Rattle.ados_volume.specs.declared.owner.Owner.{Owner}
 pub use Rattle.ados_volume.specs.declared.owner.Owner.TheVariants.{Boot, Data, Directory, Extension, File, Free, Lost, Page, Root}
 pub use Rattle.json.specs.Token.{Token, begin_array, begin_object, end_object, key, number, string}
 pub use Rattle.std.proofs.lemmas.Bool.{cases_lt}
-pub use Rattle.std.proofs.lemmas.List.{append-nil, drop-drop, drop-take, ext_get_or, get_or-append_right, get_or-map, get_or_append_left, get_or_default, get_or_past, length-drop, length-map, length-replicate, length-take-le, map-append, take-append-drop, take_all, take_more}
+pub use Rattle.std.proofs.lemmas.List.{append-nil, ext_get_or, get_or-append_right, get_or-map, get_or_append_left, get_or_default, get_or_past, length-drop, length-map, length-replicate, length-take-le, map-append, take-append-drop, take_all, take_more}
 pub use Rattle.std.proofs.lemmas.List.Elements.{All-contains, All-nil, All-push, Contains-append_left, Contains-push}
 pub use Rattle.std.specs.Fn.{FnReturns}
 pub use Rattle.std.specs.Io.KnownBytes.{Appends}

@@ -1,5 +1,5 @@
 -- The results of a function for some positions and for those after them.
-use Rattle.std.proofs.Common.{◌≡◌, ℕ, zero, suc, ◌∷◌, ap, length, ◌+◌, ◌-◌, ◌<◌, ◌≤◌, List, [], ◌++◌, get_or, ap₂, sym, ◌∙◌, subst, length-append, refl, inl, inr, ◌⊎◌, arith}
+use Rattle.std.proofs.Common.{◌≡◌, ℕ, zero, suc, ◌∷◌, length, ◌+◌, ◌-◌, ◌<◌, ◌≤◌, List, [], ◌++◌, get_or, ap₂, sym, ◌∙◌, subst, length-append, refl, inl, inr, ◌⊎◌, arith}
 use Rattle.adf_archive.proofs.Common.{get_or_append_left, get_or-append_right, cases_lt, Shared, FnReturns, GivesFrom}
 
 module _ {F R : Type 0} (g : Shared F (ℕ × Unit {0}) R) (f : F) where

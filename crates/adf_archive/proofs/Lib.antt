@@ -6,7 +6,6 @@ pub mod Gathered
 pub mod Listed
 pub mod Marking
 pub mod Naming
-pub mod Repeating
 pub mod Searching
 pub mod Shown
 pub mod Sizes

@@ -1,8 +1,8 @@
 -- A search for images, word by word.
-use Rattle.std.proofs.Common.{◌≡◌, ℕ, ◌+◌, ◌<◌, ◌≤◌, Bor, false, List, [], ◌∷◌, ◌++◌, length, get_or, map, take, sym, ap, subst, ◌∙◌, append_assoc, arith}
+use Rattle.std.proofs.Common.{◌≡◌, ℕ, ◌+◌, ◌<◌, ◌≤◌, Bor, List, [], ◌∷◌, ◌++◌, length, get_or, map, take, sym, ap, subst, ◌∙◌, append_assoc, arith}
 use Rattle.std.proofs.lemmas.List.Elements.{AllZip-push}
 use Rattle.std.specs.List.{AllZip}
-use Rattle.adf_archive.specs.NameLists.{AreOwn, IsCalled}
+use Rattle.adf_archive.specs.NameLists.{IsCalled}
 use Rattle.adf_archive.specs.declared.finding.FoundImages.{FoundImages}
 use Rattle.adf_archive.specs.steps.Adding.{AddsOwn}
 use Rattle.adf_archive.proofs.Common.{append-nil, get_or-map, length-map, string_bytes, take_all, take_more}

@@ -1,6 +1,6 @@
 -- The suspect blocks of an image, in the order of the blocks.
-use Rattle.std.proofs.Common.{◌≡◌, ◌↔◌, ℕ, zero, suc, ◌+◌, ◌-◌, ◌*◌, ◌<◌, ◌≤◌, ◌⊎◌, inl, inr, Bool, true, false, IsTrue, MatchBool, List, [], ◌∷◌, ◌++◌, length, slice_get, take, drop, All, AllPairs, Contains, Some, IfSome, IsSome, is_some, refl, sym, ap, ap₂, ◌∙◌, subst, arith}
-use Rattle.adf_archive.proofs.Common.{cases_lt, drop-drop, drop-take, get_or_past, map-append, bytes_at, All-push, Contains-append_left, Contains-push, Content, Tree, content_at, Duty, Stands, HasKey, content_in, Owns, Owner, Boot, Root, Page, Directory, File, Data, Extension, Lost, Free, Suspect, AreSuspects, IsDoubted, IsSuspect, IsSuspectAt, TellsSuspect, blocks_of, entry_of}
+use Rattle.std.proofs.Common.{◌≡◌, ◌↔◌, ℕ, ◌+◌, ◌<◌, ◌≤◌, ◌⊎◌, inl, inr, Bool, true, false, IsTrue, MatchBool, List, [], ◌∷◌, ◌++◌, length, slice_get, All, AllPairs, Contains, Some, IfSome, IsSome, is_some, refl, sym, ap, ◌∙◌, subst, arith}
+use Rattle.adf_archive.proofs.Common.{cases_lt, get_or_past, map-append, All-push, Contains-append_left, Contains-push, Content, Tree, content_at, Duty, Stands, HasKey, content_in, Owns, Owner, Boot, Root, Page, Directory, File, Data, Extension, Lost, Free, Suspect, AreSuspects, IsDoubted, IsSuspect, IsSuspectAt, TellsSuspect, blocks_of, entry_of}
 use Rattle.std.proofs.lemmas.List.Quantifiers.{all_pairs_push}
 use Rattle.ados_change.proofs.Writable.{data_is}
 use Rattle.adf_cli.specs.BadBlocks.{IsMarked}
@@ -11,22 +11,6 @@ pub record AreSuspectsBelow (filler : Bool) (marks : List Bool) (image : List �
   pub every : (block : ℕ) (owner : Owner) → block < n → IsSuspect filler marks image t block owner → Contains (blocks_of suspects) block
   pub within : All (λ block. block < n) (blocks_of suspects)
   pub rising : AllPairs (λ a b. a < b) (blocks_of suspects)
-
-take_again : (n : ℕ) (xs : List ℕ) → take n (take n xs) ≡ take n xs
-take_again zero xs = refl
-take_again (suc n) [] = refl
-take_again (suc n) (x ∷ xs) = ap (λ (ys : List ℕ). x ∷ ys) (take_again n xs)
-
--- the bytes of a block without the 24 of its header
-pub behind_header : (image : List ℕ) (block : ℕ) (bytes : List ℕ) → bytes ≡ bytes_at image block 0 512 → length bytes ≡ 512
-    → take (length bytes - 24) (drop 24 bytes) ≡ bytes_at image block 24 488
-unfolding bytes_at
-behind_header image block bytes is whole =
-    let size : length bytes - 24 ≡ 488 = omega (arith, whole) in
-    let place : 512 * block + 0 + 24 ≡ 512 * block + 24 = omega arith in
-    ap₂ (λ (n : ℕ) (xs : List ℕ). take n (drop 24 xs)) size is
-    ∙ ap (take 488) (drop-take 24 488 (drop (512 * block + 0) image) ∙ ap (take 488) (drop-drop 24 (512 * block + 0) image ∙ ap (λ (n : ℕ). drop n image) place))
-    ∙ take_again 488 (drop (512 * block + 24) image)
 
 pushed : (suspects : List Suspect) (suspect : Suspect) (block : ℕ) → suspect.block ≡ block → blocks_of (suspects ++ suspect ∷ []) ≡ blocks_of suspects ++ block ∷ []
 pushed suspects suspect block at = map-append (λ (s : Suspect). s.block) suspects (suspect ∷ []) ∙ ap (λ (b : ℕ). blocks_of suspects ++ b ∷ []) at

@@ -1,7 +1,6 @@
 -- Many checked images: the files that arguments and lists name, the report on one, the output for all, and how the check ends.
 pub mod Words
 pub mod Endings
-pub mod Fillers
 pub mod Paths
 pub mod Owned
 pub mod Suspects

@@ -2,9 +2,8 @@
 use Rattle.std.specs.Prelude.{◌≡◌, ℕ, ◌<◌, ◌⊎◌, Bool, true, List, [], map, All, AllPairs, Contains, Option, None, Some, option_map}
 use Rattle.std.specs.Borrow.{Bor}
 use Rattle.std.specs.String.{string_bytes}
-use Rattle.adf_block.specs.Fields.{format_of}
-use Rattle.adf_block.specs.Image.{bytes_at}
-use Rattle.ados_model.specs.Tree.{Tree, data_size, data_start}
+use Rattle.ados_census.specs.Fillers.{HoldsFiller}
+use Rattle.ados_model.specs.Tree.{Tree}
 use Rattle.ados_volume.specs.declared.owner.Owner.{Owner}
 use Rattle.ados_volume.specs.declared.owner.Owner.TheVariants.{Data, Free}
 use Rattle.ados_volume.specs.Owners.{Owns}
@@ -13,17 +12,8 @@ use Rattle.adf_cli.specs.BadBlocks.{AreBad, AreMarked, IsBadFault, IsMarked}
 use Rattle.adf_cli.specs.declared.bad_list.BadFault.{BadFault}
 use Rattle.adf_cli.specs.declared.bad_list.BadFault.TheVariants.{Memory}
 use Rattle.adf_archive.specs.declared.suspects.Suspect.{Suspect}
-use Rattle.adf_archive.specs.Fillers.{IsFiller}
 use Rattle.adf_archive.specs.Owned.{entry_of}
 use Rattle.adf_archive.specs.Paths.{IsPathOf}
-
--- the bytes for a file in a block, as many as fit: 488 in OFS, 512 in FFS
-abbrev pub data_bytes : List ℕ → ℕ → List ℕ
-data_bytes image block = bytes_at image block (data_start (format_of image)) (data_size (format_of image))
-
--- these are a known filler from end to end
-abbrev pub HoldsFiller : List ℕ → ℕ → Type 0
-HoldsFiller image block = IsFiller (data_bytes image block)
 
 -- a block with this owner is suspect: it has a mark, or it is a data block that holds nothing but a filler, if that is asked. A free
 -- block never is

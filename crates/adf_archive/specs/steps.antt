@@ -1,3 +1,2 @@
--- Definitions for steps: bytes that repeat a text, and how a search for images goes on.
+-- Definitions for steps: how a search for images goes on.
 pub mod Adding
-pub mod Periods

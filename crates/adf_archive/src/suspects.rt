@@ -2,20 +2,20 @@
 ghost use Rattle.std.specs.Prelude.{◌≡◌, ◌<◌, ◌≤◌, true, false, All, IfErr, IfOk, IfSome, IsTrue, MatchBool, MatchOption, Some, length, option_map, slice_index_or};
 ghost use Rattle.std.specs.String.{string_bytes};
 ghost use Rattle.adf_block.specs.Image.{block_count};
+ghost use Rattle.ados_census.specs.Fillers.{HoldsFiller};
 ghost use Rattle.ados_model.specs.Keys.{HasKey};
 ghost use Rattle.ados_model.specs.Stands.{Stands};
 ghost use Rattle.ados_model.specs.Tree.{Tree};
 ghost use Rattle.ados_volume.specs.Owners.{Owns};
 ghost use Rattle.adf_archive.specs.Owned.{entry_of};
 ghost use Rattle.adf_archive.specs.Paths.{IsPathOf};
-ghost use Rattle.adf_archive.specs.Suspects.{AreListMarks, AreSuspects, HasItsPath, HoldsFiller, IsDoubted, IsListFault, IsPathFor, IsSuspectAt, data_bytes};
+ghost use Rattle.adf_archive.specs.Suspects.{AreListMarks, AreSuspects, HasItsPath, IsDoubted, IsListFault, IsPathFor, IsSuspectAt};
 
-use crate::filler::is_filler;
 use crate::owned::entry_of;
 use crate::path::path_of;
-use adf_block::layout::OFS_DATA_BYTE;
-use adf_block::{Format, Image};
+use adf_block::Image;
 use adf_cli::{BadFault, bad_blocks, marked};
+use ados_census::holds_filler;
 use ados_volume::{Owner, Volume, owners};
 use std::alloc::{AllocError, Global};
 
@@ -140,7 +140,7 @@ fn is_filled(filler: bool, image: &Image, block: u32) -> bool
     if !filler {
         return false;
     }
-    is_filler(data_bytes(image, block))
+    holds_filler(image, block)
 }
 
 /// The path of a directory or file, if one is given and if its path is not too long.
@@ -197,17 +197,5 @@ fn same_path(alloc: Global, suspect: &Suspect) -> Result<Option<String>, AllocEr
     match &suspect.path {
         Some(path) => Ok(Some(String::from_str(alloc, path.as_str())?)),
         None => Ok(None),
-    }
-}
-
-/// The bytes for a file in a block, as many as fit.
-fn data_bytes(image: &Image, block: u32) -> &[u8]
-    requires { block < block_count image.now }
-    ensures { result.now ≡ data_bytes image.now block }
-{
-    let bytes = image.block(block);
-    match image.format() {
-        Format::Ofs => &bytes[OFS_DATA_BYTE as usize..],
-        Format::Ffs => bytes,
     }
 }

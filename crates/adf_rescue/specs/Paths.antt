@@ -1,5 +1,5 @@
 -- The host paths of what is written: files, directories and notes; and which entries are written as files.
-use Rattle.std.specs.Prelude.{◌≡◌, ℕ, ◌+◌, ◌<◌, List, [], ◌∷◌, ◌++◌, length, slice_index_or, Option, Some, None}
+use Rattle.std.specs.Prelude.{◌≡◌, ℕ, ◌+◌, ◌<◌, List, [], ◌∷◌, ◌++◌, length, slice_index_or, Some, None}
 use Rattle.adf_host.specs.declared.trees.items.HostItem.{HostItem}
 use Rattle.ados_salvage.specs.declared.salvaged.Salvaged.{Salvaged}
 use Rattle.ados_salvage.specs.declared.salvaged.State.{State}

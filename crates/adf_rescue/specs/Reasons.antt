@@ -6,6 +6,7 @@ use Rattle.adf_block.specs.Image.{block_count, block_sum, byte_at, long}
 use Rattle.adf_block.specs.declared.layout.Format.{Format}
 use Rattle.adf_block.specs.declared.layout.Format.TheVariants.{Ofs, Ffs}
 use Rattle.adf_block.specs.declared.layout.TheConstants.{COMMENT_BYTE, DATA_TYPE, FILE_TYPE, LIST_TYPE, NEXT_EXTENSION, TABLE_LONGS}
+use Rattle.ados_census.specs.Fillers.{HoldsFiller}
 use Rattle.ados_salvage.specs.declared.salvaged.HeaderState.TheVariants as heads
 use Rattle.ados_salvage.specs.declared.salvaged.Salvaged.{Salvaged}
 use Rattle.ados_salvage.specs.declared.salvaged.State.{State}
@@ -14,7 +15,7 @@ use Rattle.ados_salvage.specs.Marks.{IsHole}
 use Rattle.ados_salvage.specs.Parts.{header_at}
 use Rattle.ados_salvage.specs.Salvaged.{Saved}
 use Rattle.adf_rescue.specs.declared.doubt.Doubt.{Doubt}
-use Rattle.adf_rescue.specs.declared.doubt.Doubt.TheVariants.{Sum, Comment, Hole, Shared, Field, Gone, Cut}
+use Rattle.adf_rescue.specs.declared.doubt.Doubt.TheVariants.{Sum, Comment, Hole, Shared, Filler, Field, Gone, Cut}
 use Rattle.adf_rescue.specs.declared.evidence.Link.{Link}
 use Rattle.adf_rescue.specs.declared.evidence.Hint.{Hint}
 
@@ -56,12 +57,13 @@ IsHeaderDoubt saved header Comment = 79 < byte_at saved.image header COMMENT_BYT
 IsHeaderDoubt saved header (Field block) = block ≡ header
 IsHeaderDoubt saved header doubt = ⊥
 
--- why a file with a sound header is doubtful: a block of it has a wrong checksum, could not be read, or is one of another entry too; or else a
--- field of one of its blocks is wrong
+-- why a file with a sound header is doubtful: a block of it has a wrong checksum, could not be read, is one of another entry too, or holds a
+-- known filler where fillers count; or else a field of one of its blocks is wrong
 abbrev pub IsBlockDoubt : Saved → ℕ → Hint → Doubt → Type 0
 IsBlockDoubt saved header hint (Sum block) = (is_part saved.image header hint.own block ≡ true) × (block_sum saved.image block ≢ 0)
 IsBlockDoubt saved header hint (Hole block) = (is_part saved.image header hint.own block ≡ true) × IsHole saved.holes block
 IsBlockDoubt saved header hint (Shared block place) = (is_part saved.image header hint.own block ≡ true) × IsInOther saved header hint.other block place
+IsBlockDoubt saved header hint (Filler block) = (is_part saved.image header hint.own block ≡ true) × (saved.fillers ≡ true) × HoldsFiller saved.image block
 IsBlockDoubt saved header hint (Field block) = (block ≡ header) ⊎ (is_part saved.image header hint.own block ≡ true)
 IsBlockDoubt saved header hint doubt = ⊥
 
@@ -93,6 +95,7 @@ reason_text other (Sum block) = codes "block " ++ decimal block ++ codes " has a
 reason_text other Comment = codes "the comment in its header is too long"
 reason_text other (Hole block) = codes "block " ++ decimal block ++ codes " could not be read"
 reason_text other (Shared block place) = codes "block " ++ decimal block ++ codes " is in '" ++ other ++ codes "' too"
+reason_text other (Filler block) = codes "block " ++ decimal block ++ codes " holds a filler"
 reason_text other (Field block) = codes "block " ++ decimal block ++ codes " has a wrong field"
 reason_text other Gone = codes "its header is gone, and it is made of the data blocks that name it"
 reason_text other Cut = codes "incomplete files may have at most four times the bytes of the image in all"

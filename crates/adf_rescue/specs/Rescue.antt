@@ -73,11 +73,11 @@ pub record AreRescued (json : Bool) (rescue : Rescue) (accepted : Bool) (text : 
 abbrev pub AreSomeRescued : Bool → Rescue → List ℕ → Type 0
 AreSomeRescued json rescue text = (accepted : Bool) × AreRescued json rescue accepted text
 
--- everything in an image with these holes that can be trusted, and the blocks that are used and belong to nothing of it; of each entry why
+-- everything in an image with these holes, from a list of unread blocks or not, that can be trusted, and the blocks that are used and belong to nothing of it; of each entry why
 -- it is doubtful or cut short, its missing data blocks, and whether it would be a deleted one by a bitmap that cannot be trusted. Each file
 -- is written, once, and no two files, directories or notes to one path
-pub record IsRescue (holes : List Bool) (image : List ℕ) (rescue : Rescue) : Type 0 where
-  pub salvaged : SalvagesBeside holes image rescue.salvage
+pub record IsRescue (holes : List Bool) (listed : Bool) (image : List ℕ) (rescue : Rescue) : Type 0 where
+  pub salvaged : SalvagesBeside holes listed image rescue.salvage
   pub unaccounted : AreUnaccounted rescue.salvage rescue.unaccounted.items
   pub doubts : AreDoubts rescue.salvage rescue.doubts.items
   pub missing : AreMissing rescue.salvage rescue.missing.items
@@ -87,9 +87,9 @@ pub record IsRescue (holes : List Bool) (image : List ℕ) (rescue : Rescue) : T
 
 -- the report on everything in an image with these holes that can be trusted and on the other used blocks, as lines or as an object; the
 -- image was accepted or not
-pub record IsReport (json : Bool) (holes : List Bool) (image : List ℕ) (accepted : Bool) (text : List ℕ) : Type 0 where
+pub record IsReport (json : Bool) (holes : List Bool) (listed : Bool) (image : List ℕ) (accepted : Bool) (text : List ℕ) : Type 0 where
   pub rescue : Rescue
-  pub rescued : IsRescue holes image rescue
+  pub rescued : IsRescue holes listed image rescue
   pub told : AreRescued json rescue accepted text
 
 -- these are the bytes of an item: of a file, those of its entry

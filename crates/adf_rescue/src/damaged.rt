@@ -1,5 +1,5 @@
 //! What can be trusted in a damaged image, as files and directories of the host.
-ghost use Rattle.std.specs.Prelude.{◌≡◌, ◌<◌, ℕ, Bool, List, IfErr, IfOk, OnErr, length, ◌||◌};
+ghost use Rattle.std.specs.Prelude.{◌≡◌, ◌<◌, ℕ, Bool, List, IfErr, IfOk, OnErr, is_some, length, ◌||◌};
 ghost use Rattle.std.specs.String.{string_bytes};
 ghost use Rattle.adf_io.specs.Prefix.{Writes, WritesFrontOf};
 ghost use Rattle.ados_salvage.specs.Marks.{mark_at};
@@ -76,8 +76,8 @@ impl From<AllocError> for RescueFault {
     }
 }
 
-/// Writes everything in an image with these holes that can be trusted below a directory of the host. With `meta`, a note is written
-/// beside each entry, and with `unaccounted` a file for each run of used blocks that belong to nothing of it. Nothing is written if the job
+/// Writes everything in an image with these holes that can be trusted below a directory of the host. Fillers count where the image is
+/// refused, and where the job has a list of blocks that could not be read. With `meta`, a note is written beside each entry, and with `unaccounted` a file for each run of used blocks that belong to nothing of it. Nothing is written if the job
 /// only lists or makes a new image, or if an existing file or directory of the host is in the way.
 pub fn extract_damaged<R: PromptFiles>(
     rt: &R,
@@ -88,11 +88,11 @@ pub fn extract_damaged<R: PromptFiles>(
 ) -> Result<Rescue, RescueFault>
 where
     R::File: OwnedFile,
-    ensures told { IfOk result (IsRescue holes.items image) }
+    ensures told { IfOk result (IsRescue holes.items (is_some job.now.bad) image) }
     ensures runs { IfOk result (WritesRuns job.now.unaccounted) }
     ensures fault { IfErr result (IsRescueFault job.now.list) }
 {
-    let salvage = salvage_beside(alloc, image, holes)?;
+    let salvage = salvage_beside(alloc, image, holes, job.bad.is_some())?;
     let output = output_of(alloc, &salvage, job)?;
     if !(job.list || job.out.is_some()) {
         let (out, files) = (&output.plan.out, &output.files);
@@ -121,7 +121,7 @@ fn output_of(alloc: Global, salvage: &Salvage, job: &SalvageJob<'_>) -> Result<O
 /// What was saved with these host files and directories, with what only the report needs: why entries are doubtful, the missing data
 /// blocks of the files, and what the bitmap says of the entries. So less memory is held while files are written.
 fn rescue_of(alloc: Global, salvage: Salvage, output: Output) -> Result<Rescue, AllocError>
-    ensures told { IfOk result (λ rescue. (holes : List Bool) (image : List ℕ) (wanted : Bool) → SalvagesBeside holes image salvage → IsOutput salvage wanted output → IsRescue holes image rescue) }
+    ensures told { IfOk result (λ rescue. (holes : List Bool) (listed : Bool) (image : List ℕ) (wanted : Bool) → SalvagesBeside holes listed image salvage → IsOutput salvage wanted output → IsRescue holes listed image rescue) }
     ensures runs { IfOk result (λ rescue. (wanted : Bool) → IsOutput salvage wanted output → WritesRuns wanted rescue) }
 {
     let doubts = doubts(alloc, &salvage)?;

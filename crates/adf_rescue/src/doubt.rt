@@ -16,6 +16,8 @@ pub enum Doubt {
     Hole(u32),
     /// This block of it is also one of the entry at this position.
     Shared(u32, usize),
+    /// This data block of it holds a known filler, which a copying program may have written in place of its bytes.
+    Filler(u32),
     /// This block of it has a wrong field.
     Field(u32),
     /// It has no header: it is what is left in the data blocks that name it.
@@ -49,6 +51,10 @@ impl Doubt {
             }
             Doubt::Shared(block, _) => {
                 let text = format!(in alloc; "block {block} is in '{other}' too")?;
+                Ok(text)
+            }
+            Doubt::Filler(block) => {
+                let text = format!(in alloc; "block {block} holds a filler")?;
                 Ok(text)
             }
             Doubt::Field(block) => {

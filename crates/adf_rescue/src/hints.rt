@@ -7,6 +7,7 @@ use adf_block::layout::{
     BOOT_BLOCKS, FILE_SIZE, HELD, NEXT_DATA, NEXT_EXTENSION, OFS_ROOM, POINTER_COUNT, TABLE_LONGS,
 };
 use adf_block::{Format, Image};
+use ados_census::holds_filler;
 use ados_salvage::{
     HeaderState, Piece, Salvage, Salvaged, State, data_needed, is_file, is_hole, is_sound_header,
 };
@@ -68,10 +69,19 @@ fn own_hint(
         return None;
     }
     let found = pointer_hint(salvage, header, passed);
-    if found.is_some() || image.format() == Format::Ffs {
+    if found.is_some() {
         return found;
     }
-    data_hint(image, header, place, salvage.pieces())
+    if image.format() == Format::Ofs {
+        let found = data_hint(image, header, place, salvage.pieces());
+        if found.is_some() {
+            return found;
+        }
+    }
+    if salvage.counts_fillers() {
+        return filler_hint(image, header, place, salvage.pieces());
+    }
+    None
 }
 
 /// Whether an entry is a file with a sound header, and not whole.
@@ -113,7 +123,7 @@ fn pointer_hint(salvage: &Salvage, header: u32, passed: &mut Vec<bool>) -> Optio
         if q >= last {
             return if next == 0 { None } else { Some(wrong) };
         }
-        if next < BOOT_BLOCKS || next >= image.blocks() || next as usize >= passed.len() {
+        if next < BOOT_BLOCKS || next == header || next as usize >= passed.len() {
             return Some(wrong);
         }
         if let Some(doubt) = extension_doubt(salvage, header, next) {
@@ -176,4 +186,39 @@ fn data_hint(image: &Image, header: u32, place: usize, pieces: &[Piece]) -> Opti
         return Some(hint_of(Doubt::Field(before), header));
     }
     None
+}
+
+/// The first data block of a file that holds a known filler.
+fn filler_hint(image: &Image, header: u32, place: usize, pieces: &[Piece]) -> Option<Hint> {
+    // The pieces are in the order of the files.
+    for at in pieces.partition_point(|piece| piece.place < place)..pieces.len() {
+        let piece = pieces[at];
+        if piece.place != place || piece.block >= image.blocks() {
+            break;
+        }
+        if holds_filler(image, piece.block) {
+            let own = pointer_to(image, header, piece.at);
+            return Some(Hint {
+                doubt: Doubt::Filler(piece.block),
+                own,
+                other: own,
+            });
+        }
+    }
+    None
+}
+
+/// Where the pointer to a data block of a file is, along its extension blocks.
+fn pointer_to(image: &Image, header: u32, at: u32) -> Link {
+    let mut holder = header;
+    for _passed in 0..at / TABLE_LONGS {
+        if holder >= image.blocks() {
+            break;
+        }
+        holder = image.long(holder, NEXT_EXTENSION);
+    }
+    Link {
+        holder,
+        i: at % TABLE_LONGS,
+    }
 }

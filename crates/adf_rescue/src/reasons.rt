@@ -2,6 +2,7 @@
 ghost use Rattle.std.specs.Prelude.{◌≡◌, ◌≢◌, IfOk, IsTrue, true};
 ghost use Rattle.adf_rescue.specs.Reasons.{AreDoubts, IsBlockDoubt, IsGoneDoubt, IsHeaderDoubt, IsInOther, IsReason, is_part};
 ghost use Rattle.adf_block.specs.Image.{block_sum};
+ghost use Rattle.ados_census.specs.Fillers.{HoldsFiller};
 ghost use Rattle.ados_salvage.specs.Marks.{IsHole};
 ghost use Rattle.ados_salvage.specs.Parts.{header_at};
 
@@ -9,6 +10,7 @@ use crate::doubt::Doubt;
 use crate::evidence::{Hint, Link, is_part};
 use crate::hints::{hint_at, hints};
 use adf_block::layout::COMMENT_BYTE;
+use ados_census::holds_filler;
 use ados_salvage::{HeaderState, Salvage, Salvaged, State, is_hole};
 use std::alloc::{AllocError, Global};
 
@@ -85,6 +87,7 @@ fn block_doubt(salvage: &Salvage, header: u32, hint: Hint) -> Doubt
         Doubt::Shared(block, place) if is_shared(salvage, header, hint, block, place) => {
             Doubt::Shared(block, place)
         }
+        Doubt::Filler(block) if is_filled(salvage, header, hint.own, block) => Doubt::Filler(block),
         Doubt::Field(block) if is_part(salvage.image(), header, hint.own, block) => {
             Doubt::Field(block)
         }
@@ -105,6 +108,17 @@ fn is_unread(salvage: &Salvage, header: u32, link: Link, block: u32) -> bool
     ensures { IsTrue result → (is_part salvage.now.image header link block ≡ true) × IsHole salvage.now.holes block }
 {
     is_part(salvage.image(), header, link, block) && is_hole(salvage.holes(), block)
+}
+
+/// Whether a block is one of the entry with this header, and holds a known filler where fillers count.
+fn is_filled(salvage: &Salvage, header: u32, link: Link, block: u32) -> bool
+    ensures { IsTrue result → (is_part salvage.now.image header link block ≡ true) × (salvage.now.fillers ≡ true) × HoldsFiller salvage.now.image block }
+{
+    let image = salvage.image();
+    is_part(image, header, link, block)
+        && salvage.counts_fillers()
+        && block < image.blocks()
+        && holds_filler(image, block)
 }
 
 /// Whether a block is one of the entry with this header, and of another at this position too.

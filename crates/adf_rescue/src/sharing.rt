@@ -106,7 +106,7 @@ fn shared_hint(
     Ok(None)
 }
 
-/// The files that name each block: the whole ones, and those with sound headers for which there is no hint.
+/// The files that name each block: the whole ones, and those with sound headers for which there is no hint but that of a filler.
 fn namers_of(
     alloc: Global,
     salvage: &Salvage,
@@ -117,7 +117,7 @@ fn namers_of(
     for place in 0..entries.len() {
         let entry = &entries[place];
         if place < hints.len()
-            && hints[place].is_none()
+            && are_right_blocks(&hints[place])
             && is_right(image, entry.header, entry.state)
         {
             for named in &blocks_of(alloc, image, entry.header)? {
@@ -126,6 +126,14 @@ fn namers_of(
         }
     }
     Ok(namers)
+}
+
+/// Whether the own blocks of a file are right, as far as its hint says: there is none, or that of a filler.
+fn are_right_blocks(hint: &Option<Hint>) -> bool {
+    match hint {
+        Some(hint) => matches!(hint.doubt, Doubt::Filler(_)),
+        None => true,
+    }
 }
 
 /// Whether an entry is a file with a sound header.

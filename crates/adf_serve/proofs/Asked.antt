@@ -1,25 +1,19 @@
 -- A port's only client puts DISK_INFO, it is served, and the reply is taken: the answer is that for the image's tree.
-use Rattle.std.proofs.Common.{◌≡◌, ◌⊎◌, inl, inr, ℕ, zero, suc, pos, Bool, true, false, List, [], ◌∷◌, ◌++◌, ◌+◌, ◌-◌, get_or, length, map, take, drop, slice_get, Option, Some, None, arith, refl, sym, ap, ◌∙◌, subst}
+use Rattle.std.proofs.Common.{◌≡◌, ◌⊎◌, inl, inr, ℕ, zero, suc, false, List, [], ◌∷◌, ◌++◌, ◌+◌, ◌-◌, get_or, length, map, take, slice_get, Some, arith, refl, sym, ap, ◌∙◌, subst}
 use Rattle.std.proofs.lemmas.List.{length-append}
 use Rattle.std.proofs.lemmas.Option.{same_Some, slice_get-get_or}
 use Rattle.std.proofs.Math.Seq.{get_or-append_seam}
-use Rattle.adf_block.specs.declared.layout.Format.{Format}
 use Rattle.ados_name.specs.declared.stamp.Date3.{Date3}
-use Rattle.ados_model.specs.Accepted.{Accepts}
-use Rattle.ados_model.specs.Actions.{action_number}
 use Rattle.ados_model.specs.DiskDate.{sets_disk_date}
 use Rattle.ados_model.specs.Meaning.{Meaning}
-use Rattle.ados_model.specs.Packet.{dos_true}
-use Rattle.ados_model.specs.Objects.{disk_info}
 use Rattle.ados_model.specs.Session.{Session, opening_session}
 use Rattle.ados_handler.specs.HandlerState.{HandlerState}
 use Rattle.ados_model.specs.Tree.{Tree}
 use Rattle.ados_model.specs.declared.answer.Answer.{Answer}
-use Rattle.ados_model.specs.declared.answer.Body.TheVariants.{Disk}
 use Rattle.ados_model.specs.declared.packet.Packet.{Packet}
 use Rattle.ados_model.specs.declared.packet.Packet.TheVariants.{DiskInfo}
-use Rattle.ados_port.specs.History.{PortState, Event, PortHistory, Run, Serving, accepted_in, events_of, last_server, opening_port, packets_by, queue, served_count, take_outcome}
-use Rattle.ados_port.specs.declared.step.{Step.Step, Step.TheVariants.Put, Step.TheVariants.Serve, Step.TheVariants.Take}
+use Rattle.ados_port.specs.History.{PortHistory, Run, Serving, accepted_in, events_of, last_server, opening_port, packets_by, served_count, take_outcome}
+use Rattle.ados_port.specs.declared.step.{Step.TheVariants.Put, Step.TheVariants.Serve, Step.TheVariants.Take}
 use Rattle.ados_port.specs.declared.step.{Outcome.Outcome, Outcome.TheVariants.Accepted, Outcome.TheVariants.Idle, Outcome.TheVariants.NoClient, Outcome.TheVariants.Nothing, Outcome.TheVariants.Refused, Outcome.TheVariants.Served, Outcome.TheVariants.Taken}
 use Rattle.ados_run.specs.Keeping.{KeepsVolume, ServesBoth}
 use Rattle.ados_run.specs.Runs.{BothSides, HandlerPort, PacketOutcomes, PacketSteps, port_beside}

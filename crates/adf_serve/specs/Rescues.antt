@@ -1,5 +1,5 @@
 -- How `extract --damaged` ends.
-use Rattle.std.specs.Prelude.{◌≡◌, ◌==◌, ℕ, Bool, true, false, List, [], length, Option, Some, None, MatchOption, Result, Ok, Err, ⊤}
+use Rattle.std.specs.Prelude.{◌≡◌, ◌==◌, ℕ, Bool, true, false, List, [], length, Option, Some, None, MatchOption, Result, Ok, Err, is_some, ⊤}
 use Rattle.adf_block.specs.Image.{block_count}
 use Rattle.ados_name.specs.declared.stamp.Date3.{Date3}
 use Rattle.ados_salvage.specs.Salvaged.{Saved}
@@ -56,7 +56,7 @@ IsMendedFor job saved all = MatchOption job.out ⊤ (λ file. IsMendedAs saved a
 -- the report on a rescue of an image that was accepted or not, as lines or as a JSON object, and the new volume of that rescue
 abbrev pub IsRescueText : SalvageJob → Option Bool → Bool → List ℕ → Type 0
 IsRescueText job all accepted text =
-    (holes : List Bool) × (image : List ℕ) × AreHoles job image holes × (report : IsReport job.json holes image accepted text) × IsMendedFor job report.rescue.salvage all
+    (holes : List Bool) × (image : List ℕ) × AreHoles job image holes × (report : IsReport job.json holes (is_some job.bad) image accepted text) × IsMendedFor job report.rescue.salvage all
 
 -- whether a result says that the new image has all, or not all, that was saved
 abbrev pub told_all : Result (Unit {0}) CommandFault → Option Bool

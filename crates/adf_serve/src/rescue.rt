@@ -1,5 +1,5 @@
 //! The command `extract --damaged`.
-ghost use Rattle.std.specs.Prelude.{◌≡◌, ℕ, Bool, List, [], None, Some, IfErr, IfOk};
+ghost use Rattle.std.specs.Prelude.{◌≡◌, ℕ, Bool, List, [], None, Some, IfErr, IfOk, is_some};
 ghost use Rattle.adf_rescue.specs.Rescue.{IsRescue};
 ghost use Rattle.adf_serve.specs.Faults.{IsNoImage};
 ghost use Rattle.adf_serve.specs.Rescues.{AreHoles, DoesRescue, IsMendedFor, IsRescueEnd};
@@ -119,7 +119,7 @@ fn tell_rescue<'a, W: Write, F: Write>(
     writer: &mut W,
     faults: &mut F,
 ) -> Result<(), CommandFault<'a>>
-    ensures { (holes : List Bool) (image : List ℕ) → AreHoles job.now image holes → IsRescue holes image rescue.now → IsMendedFor job.now rescue.now.salvage (Some all)
+    ensures { (holes : List Bool) (image : List ℕ) → AreHoles job.now image holes → IsRescue holes (is_some job.now.bad) image rescue.now → IsMendedFor job.now rescue.now.salvage (Some all)
         → DoesRescue job.now (W.contents writer.old) (W.contents writer.new) result }
 {
     tell_sums(rescue, faults);
@@ -199,7 +199,7 @@ fn rescue_of<'a, R: Files<File = File> + PromptFiles>(
     holes: Vec<bool>,
     job: &SalvageJob<'a>,
 ) -> Result<Rescue, CommandFault<'a>>
-    ensures told { IfOk result (λ rescue. IsRescue holes.items image rescue) }
+    ensures told { IfOk result (λ rescue. IsRescue holes.items (is_some job.now.bad) image rescue) }
     ensures fault { IfErr result (IsRescueEnd job.now.list) }
 {
     match extract_damaged(rt, alloc, image, holes, job) {

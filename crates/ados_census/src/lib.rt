@@ -7,6 +7,7 @@
 mod census;
 mod class;
 mod counting;
+mod filler;
 mod laws;
 mod naming;
 
@@ -19,6 +20,7 @@ pub use census::{Census, take_census};
 pub use class::{
     BLOCK_KINDS, BlockClass, BlockKind, WrongLong, class_as, class_of, is_sound_as, looks_like,
 };
+pub use filler::{Filler, holds_filler, is_filler};
 pub use laws::places_are_namings;
 pub use place::{Place, PlaceKind};
 pub use places::places_of;

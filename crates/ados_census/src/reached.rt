@@ -4,7 +4,7 @@ ghost use Rattle.adf_block.specs.declared.layout.TheConstants.{BLOCK_LONGS};
 ghost use Rattle.adf_block.specs.Image.{block_count};
 ghost use Rattle.adf_block.specs.Whole.{IsImage};
 ghost use Rattle.ados_model.specs.Faults.{InImage, IsEntry};
-ghost use Rattle.ados_census.specs.Reached.{IsReached};
+ghost use Rattle.ados_census.specs.Reached.{IsLeaf, IsReached};
 ghost use Rattle.ados_census.specs.steps.Marks.{IsMarked};
 ghost use Rattle.ados_census.specs.steps.Reaching.{AreKept, AreWalked, IsPassed, IsReachedIn, IsStep, cell, form};
 
@@ -103,6 +103,14 @@ impl<'a> Reached<'a> {
         ensures { MatchBool result (IsEntry self.now block) (¬ IsEntry self.now block) }
     {
         self.has_in_form(block, form_of(Role::Entry(0, 0)))
+    }
+
+    /// Whether a block is reached as a data block of a file, or as a bitmap block.
+    pub fn has_leaf(&self, block: u32) -> bool
+        requires { block < block_count self.now }
+        ensures { MatchBool result (IsLeaf self.now block) (¬ IsLeaf self.now block) }
+    {
+        self.has_in_form(block, form_of(Role::Data(0)))
     }
 
     /// Whether a block is reached in a role of a form.

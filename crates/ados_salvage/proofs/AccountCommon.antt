@@ -6,9 +6,9 @@ pub use Rattle.adf_block.specs.declared.layout.TheConstants.{NEXT_EXTENSION}
 pub use Rattle.ados_salvage.specs.Sound.{Names}
 pub use Rattle.ados_map.specs.Pages.{IsPage, page_block}
 pub use Rattle.ados_salvage.specs.Marks.{mark_at}
-pub use Rattle.ados_salvage.specs.Account.{BelongsTo, HasExtensionBlock, IsAccounted, IsDamagedFile, IsNextExtension, IsOfDamaged, OfOne}
+pub use Rattle.ados_salvage.specs.Account.{BelongsTo, HasExtensionBlock, IsAccounted, IsDamagedFile, IsExtensionOf, IsNextExtension, IsOfDamaged, OfOne}
 unfoldable pub use Rattle.ados_census.specs.steps.Marks.{unmarked}
-pub use Rattle.ados_salvage.specs.steps.Accounting.{Adds, AreAccounted, AreClosed, AreMarkedAfter, HasNoMarks, IsNewAfter, IsOwn, IsOwnIn, IsPieceBlock}
+pub use Rattle.ados_salvage.specs.steps.Accounting.{Adds, AreAccounted, AreClosed, AreMarkedAfter, HasNoMarks, IsLinkedOf, IsNewAfter, IsOwn, IsOwnIn, IsPieceBlock}
 pub use Rattle.ados_census.specs.steps.Marks.{IsMarked}
 pub use Rattle.ados_model.specs.Faults.{InImage, root_of}
 unfoldable pub use Rattle.ados_model.specs.File.{data_blocks, extension_blocks}

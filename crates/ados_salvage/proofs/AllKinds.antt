@@ -1,6 +1,6 @@
 -- The marks of all kinds of blocks together: exactly those that are accounted for.
 use Rattle.std.proofs.Common.{◌≡◌, ℕ, ◌<◌, ◌⊎◌, inl, inr, Bool, true, false, MatchBool, List, length, refl, sym, ◌∙◌, subst, arith}
-use Rattle.ados_salvage.proofs.AccountCommon.{block_count, root_of, BelongsTo, HasExtensionBlock, IsAccounted, IsPage, Adds, AreAccounted, HasNoMarks, IsDamagedFile, IsMarked, IsOfDamaged, IsOwn, IsOwnIn, IsPieceBlock, OfOne, mark_at}
+use Rattle.ados_salvage.proofs.AccountCommon.{block_count, root_of, BelongsTo, IsAccounted, IsExtensionOf, IsPage, Adds, AreAccounted, HasNoMarks, IsDamagedFile, IsMarked, IsOfDamaged, IsOwn, IsOwnIn, IsPieceBlock, OfOne, mark_at}
 use Rattle.ados_salvage.specs.declared.salvaged.State.{State}
 use Rattle.ados_salvage.specs.declared.salvaged.State.TheVariants.{Broken, Directory, Doubtful, DoubtfulDirectory, Lost, Whole}
 use Rattle.ados_salvage.specs.Salvaged.{Saved}
@@ -15,7 +15,7 @@ own_belongs image header block (Doubtful heading length) own = inl own
 own_belongs image header block Lost own = own
 own_belongs image header block (Broken missing cut length) own = inl own
 
-extension_belongs : (image : List ℕ) (header block : ℕ) (state : State) → IsDamagedFile state → HasExtensionBlock image header block → BelongsTo image header state block
+extension_belongs : (image : List ℕ) (header block : ℕ) (state : State) → IsDamagedFile state → IsExtensionOf image header block → BelongsTo image header state block
 extension_belongs image header block Directory damaged extension = absurd damaged
 extension_belongs image header block DoubtfulDirectory damaged extension = absurd damaged
 extension_belongs image header block Whole damaged extension = absurd damaged
@@ -23,7 +23,7 @@ extension_belongs image header block (Doubtful heading length) damaged extension
 extension_belongs image header block Lost damaged extension = absurd damaged
 extension_belongs image header block (Broken missing cut length) damaged extension = inr extension
 
-belongs_by : (image : List ℕ) (header block : ℕ) (state : State) → BelongsTo image header state block → IsOwnIn image header state block ⊎ (IsDamagedFile state × HasExtensionBlock image header block)
+belongs_by : (image : List ℕ) (header block : ℕ) (state : State) → BelongsTo image header state block → IsOwnIn image header state block ⊎ (IsDamagedFile state × IsExtensionOf image header block)
 belongs_by image header block Directory own = inl own
 belongs_by image header block DoubtfulDirectory own = inl own
 belongs_by image header block Whole own = inl own

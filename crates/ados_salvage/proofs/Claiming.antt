@@ -1,5 +1,5 @@
 -- The claims of the blocks, in terms of the sound files.
-use Rattle.ados_salvage.proofs.KnownCommon.{◌≡◌, ◌≢◌, ne_eqb, ℕ, zero, suc, ◌+◌, ◌<◌, ◌==◌, inl, inr, Bool, true, false, MatchBool, All, List, [], ◌∷◌, ◌++◌, length, take, drop, get_or, Contains, refl, sym, ap, ◌∙◌, subst, arith, cases_lt, cases_eq, ◌↔◌, eq-eqb, drop_of_length-le, append-nil, get_or_default, Contains-append_cases, Contains-append_left, Contains-append_right, block_count, Claim, Free, One, Several, HasClaim, IsClaimant, IsHole, IsIntact, IsWhole, Names, own_blocks, AreClaims, IsClaim, IsNoted, claim_at, with_claim}
+use Rattle.ados_salvage.proofs.KnownCommon.{◌≡◌, ◌≢◌, ne_eqb, ℕ, ◌+◌, ◌<◌, ◌==◌, inl, inr, Bool, true, false, MatchBool, All, List, [], ◌∷◌, ◌++◌, length, take, drop, get_or, Contains, refl, sym, ap, ◌∙◌, subst, arith, cases_lt, cases_eq, ◌↔◌, eq-eqb, drop_of_length-le, append-nil, get_or_default, Contains-append_cases, Contains-append_left, Contains-append_right, block_count, Claim, Free, One, Several, HasClaim, IsClaimant, IsHole, IsIntact, IsWhole, Names, own_blocks, AreClaims, IsClaim, IsNoted, claim_at, with_claim}
 use Rattle.std.proofs.Math.Seq.{take-length}
 use Rattle.ados_salvage.proofs.SoundParts.{lawful_holders, lawful_data_blocks}
 use Rattle.ados_salvage.proofs.Leaving.{only_one}

@@ -1,6 +1,7 @@
 -- The blocks of a file, while they are gathered.
-use Rattle.ados_salvage.proofs.KnownCommon.{All, Contains, ◌≡◌, ℕ, zero, suc, ◌+◌, ◌-◌, ◌/◌, ◌%◌, ◌<◌, ◌≤◌, inl, inr, Bool, true, false, MatchBool, List, [], ◌∷◌, ◌++◌, length, map, get_or, slice_index, refl, sym, ap, ◌∙◌, subst, arith, range_with_len, map-range_with_len_more, All-from_get_or, cases_lt, ext_get_or, append_assoc, get_or_append_left, get_or_default, length-append, Ofs, block_count, long, IsInside, format_of, NEXT_DATA, pointer_block, data_block, data_blocks, extension_blocks, in_extensions, IsIntact, own_blocks, AreUsersBelow, IsHolder, HasHolders, HasKnownBlocks, NEXT_EXTENSION, IsDataBlock, HasData, data_needed, extensions_needed, data_before}
-use Rattle.ados_salvage.proofs.SoundParts.{length-extensions, header-is, length-own, own-header, own-data, data-at, lawful_few, lawful_holders}
+use Rattle.ados_salvage.proofs.KnownCommon.{All, Contains, ◌≡◌, ℕ, zero, suc, ◌+◌, ◌-◌, ◌/◌, ◌%◌, ◌<◌, ◌≤◌, inl, inr, Bool, true, false, MatchBool, List, [], ◌∷◌, ◌++◌, length, take, drop, take_all, map, get_or, slice_index, refl, sym, ap, ◌∙◌, subst, arith, range_with_len, map-range_with_len_more, All-from_get_or, cases_lt, ext_get_or, append_assoc, get_or_append_left, get_or_default, length-append, Ofs, block_count, long, IsInside, format_of, NEXT_DATA, pointer_block, data_block, data_blocks, extension_blocks, LawfulFile, in_extensions, IsIntact, own_blocks, AreUsersBelow, IsHolder, HasHolders, HasKnownBlocks, NEXT_EXTENSION, IsDataBlock, HasData, data_needed, extensions_needed, data_before}
+use Rattle.std.proofs.lemmas.List.{drop-append-le, drop_all}
+use Rattle.ados_salvage.proofs.SoundParts.{length-data, length-extensions, header-is, length-own, own-header, own-data, data-at, lawful_few, lawful_holders}
 
 -- all blocks of a sound file are known
 pub intact_known : (image : List ℕ) (file : ℕ) → IsIntact image file → HasKnownBlocks image file
@@ -120,6 +121,15 @@ module _ (image : List ℕ) (file : ℕ) where
       let at : length xs - n + i ≡ suc (extensions_needed image file) + i = omega (arith, ap length e, count, length-own image file) in
       ap (λ (ys : List ℕ). slice_index ys (length xs - n + i)) e ∙ ap (slice_index (own_blocks image file)) at ∙ own-data image file i ∙ data-at image file i l
 
+  pub own_behind : (xs : List ℕ) (n : ℕ) → xs ≡ own_blocks image file → n ≡ data_needed image file → take (length xs - (length xs - n)) (drop (length xs - n) xs) ≡ data_blocks image file
+  own_behind xs n e count =
+      let few : length xs - n ≡ length (file ∷ extension_blocks image file) = omega (arith, ap length e, count, length-own image file, length-extensions image file) in
+      let rest : drop (length xs - n) xs ≡ data_blocks image file =
+      ap (drop (length xs - n)) e ∙ ap (λ (m : ℕ). drop m (own_blocks image file)) few
+      ∙ drop-append-le (length (file ∷ extension_blocks image file)) (file ∷ extension_blocks image file) (data_blocks image file) (omega arith)
+      ∙ ap (λ (ys : List ℕ). ys ++ data_blocks image file) (drop_all (length (file ∷ extension_blocks image file)) (file ∷ extension_blocks image file) (omega arith)) in
+      ap (take (length xs - (length xs - n))) rest ∙ take_all (length xs - (length xs - n)) (data_blocks image file) (omega (arith, ap length e, count, length-own image file, length-data image file))
+
   pub own_inside : HasHolders image file → HasData image file → (k : ℕ) → k < length (own_blocks image file) → IsInside (block_count image) (slice_index (own_blocks image file) k)
   own_inside h d k l = elim (cases_lt k (suc (extensions_needed image file))) [
     | inl a ↦ subst (IsInside (block_count image)) (sym (own-header image file k (omega (arith, a)) ∙ header-is image file k (omega (arith, a)))) (h.holder k (omega (arith, a))).inside
@@ -135,3 +145,7 @@ module _ (image : List ℕ) (file : ℕ) where
   pub own_below : (xs : List ℕ) (n : ℕ) → HasHolders image file → HasData image file → xs ≡ own_blocks image file → n ≡ block_count image → All (λ (block : ℕ). block < n) xs
   own_below xs n h d e size = All-from_get_or (λ (block : ℕ). block < n) xs 0
       (λ i l. omega (arith, size, ap (λ (ys : List ℕ). slice_index ys i) e, (own_inside h d i (omega (arith, l, ap length e))).1))
+
+-- the data blocks of a lawful file are inside the volume
+pub data_within : (image : List ℕ) (file : ℕ) → LawfulFile image file → All (λ (block : ℕ). block < block_count image) (data_blocks image file)
+data_within image file lawful = All-from_get_or (λ (block : ℕ). block < block_count image) (data_blocks image file) 0 (λ i l. (lawful.places.data_inside i l).1)

@@ -28,11 +28,11 @@ no_tree image found none = subst (AreOfOneTree image) (sym none) (record {
 })
 
 -- only the entries of a tree are there
-pub gathers_none : (out : List ℕ) (holes : List Bool) (image : List ℕ) (tree : List Salvaged) (g : Gathered) → g.entries.items ≡ tree → AreOfOneTree image tree → ArePlacesOf image tree g.places.items
-    → IsGiving holes image g.giving → g.giving.left ≤ 4 * length image → g.giving.pieces.items ≡ [] → AreGathered (length tree) out holes image g
-gathers_none out holes image tree g entries of places giving share none = record {
+pub gathers_none : (out : List ℕ) (holes : List Bool) (fillers : Bool) (image : List ℕ) (tree : List Salvaged) (g : Gathered) → g.entries.items ≡ tree → AreOfOneTree image tree → ArePlacesOf image tree g.places.items
+    → IsGiving holes image g.giving → g.giving.left ≤ 4 * length image → g.giving.pieces.items ≡ [] → AreGathered (length tree) out holes fillers image g
+gathers_none out holes fillers image tree g entries of places giving share none = record {
   behind = omega (arith, ap length entries);
-  told = subst (All (IsTold out holes image)) (sym (ap (drop (length tree)) entries ∙ drop_all (length tree) tree (omega arith))) (All-nil (IsTold out holes image));
+  told = subst (All (IsTold out holes fillers image)) (sym (ap (drop (length tree)) entries ∙ drop_all (length tree) tree (omega arith))) (All-nil (IsTold out holes fillers image));
   size = places.size;
   placed = subst (λ (es : List Salvaged). (i : ℕ) → i < length (headers_of es) → place_at g.places.items (slice_index (headers_of es) i) ≡ Some i) (sym entries) places.placed;
   met = subst (λ (es : List Salvaged). (block : ℕ) → IsSome (place_at g.places.items block) → Contains (headers_of es) block) (sym entries) places.met;
@@ -41,9 +41,9 @@ gathers_none out holes image tree g entries of places giving share none = record
   counted = subst (λ (n : ℕ). AreCounted n out image g.entries.items g.giving.pieces.items) (ap length entries) (counts_none out image g.entries.items g.giving.pieces.items none);
 }
 
-module _ (known : Known) (old new : Gathered) (by : AreGatheredBy known old) (e : Salvaged) (block : ℕ) (told : IsTold known.left_out known.holes.items known.image e) (is : e.header ≡ block) (below : block < block_count known.image)
+module _ (known : Known) (old new : Gathered) (by : AreGatheredBy known old) (e : Salvaged) (block : ℕ) (told : IsTold known.left_out known.holes.items known.fillers known.image e) (is : e.header ≡ block) (below : block < block_count known.image)
     (free : place_at old.places.items block ≡ None) where
-  g : AreGathered known.before known.left_out known.holes.items known.image old
+  g : AreGathered known.before known.left_out known.holes.items known.fillers known.image old
   g = by.so_far
 
   inside : block < length old.places.items
@@ -67,10 +67,10 @@ module _ (known : Known) (old new : Gathered) (by : AreGatheredBy known old) (e 
       ap headers_of grown ∙ map-append (λ (entry : Salvaged). entry.header) old.entries.items (e ∷ []) ∙ ap (λ (b : ℕ). headers_of old.entries.items ++ b ∷ []) is in
       let here : place_at new.places.items block ≡ Some place = ap (λ (ps : List (Option ℕ)). place_at ps block) noted ∙ now_met place in
       let there : (b : ℕ) → b ≢ block → place_at new.places.items b ≡ place_at old.places.items b = λ b other. ap (λ (ps : List (Option ℕ)). place_at ps b) noted ∙ still place b other in
-      let gathered : AreGathered known.before known.left_out known.holes.items known.image new = record {
+      let gathered : AreGathered known.before known.left_out known.holes.items known.fillers known.image new = record {
         behind = omega (arith, g.behind, ap length grown, length-append old.entries.items (e ∷ []));
-        told = subst (All (IsTold known.left_out known.holes.items known.image)) (sym (ap (drop known.before) grown ∙ drop-append-le known.before old.entries.items (e ∷ []) g.behind))
-            (All-push (IsTold known.left_out known.holes.items known.image) (drop known.before old.entries.items) e g.told told);
+        told = subst (All (IsTold known.left_out known.holes.items known.fillers known.image)) (sym (ap (drop known.before) grown ∙ drop-append-le known.before old.entries.items (e ∷ []) g.behind))
+            (All-push (IsTold known.left_out known.holes.items known.fillers known.image) (drop known.before old.entries.items) e g.told told);
         size = ap length noted ∙ length-set old.places.items block (Some place) ∙ g.size;
         placed = λ i l.
             let same : slice_index (headers_of new.entries.items) i ≡ slice_index (headers_of old.entries.items ++ block ∷ []) i = ap (λ (xs : List ℕ). slice_index xs i) more_headers in

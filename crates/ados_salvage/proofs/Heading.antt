@@ -3,13 +3,13 @@ use Rattle.ados_salvage.proofs.KnownCommon.{◌≡◌, ◌≢◌, ℕ, ◌+◌, 
 use Rattle.ados_salvage.proofs.Naming.{header_inside, header_names}
 
 -- one more block was looked at
-pub sound_more : (image : List ℕ) (n : ℕ) (marks more : List Bool) (mark : Bool) → length marks ≡ n → ((block : ℕ) → block < n → IsTrue (mark_at marks block) ↔ IsSoundHeader image block)
-    → more ≡ marks ++ mark ∷ [] → IsTrue mark ↔ IsSoundHeader image n → (block : ℕ) → block < n + 1 → IsTrue (mark_at more block) ↔ IsSoundHeader image block
-sound_more image n marks more mark size before grown here =
-    let P : ℕ → Type 0 = λ block. IsTrue (mark_at more block) ↔ IsSoundHeader image block in
-    below_more P n
-    (λ block l. subst (λ (b : Bool). IsTrue b ↔ IsSoundHeader image block) (sym (ap (λ (xs : List Bool). mark_at xs block) grown ∙ get_or_append_left marks (mark ∷ []) false block (omega (arith, l, size)))) (before block l))
-    (subst (λ (b : Bool). IsTrue b ↔ IsSoundHeader image n) (sym (ap (λ (xs : List Bool). mark_at xs n) grown ∙ get_or_push marks mark false n size)) here)
+pub decided_more : (P : ℕ → Type 0) (n : ℕ) (marks more : List Bool) (mark : Bool) → length marks ≡ n → ((block : ℕ) → block < n → IsTrue (mark_at marks block) ↔ P block)
+    → more ≡ marks ++ mark ∷ [] → IsTrue mark ↔ P n → (block : ℕ) → block < n + 1 → IsTrue (mark_at more block) ↔ P block
+decided_more P n marks more mark size before grown here =
+    let Q : ℕ → Type 0 = λ block. IsTrue (mark_at more block) ↔ P block in
+    below_more Q n
+    (λ block l. subst (λ (b : Bool). IsTrue b ↔ P block) (sym (ap (λ (xs : List Bool). mark_at xs block) grown ∙ get_or_append_left marks (mark ∷ []) false block (omega (arith, l, size)))) (before block l))
+    (subst (λ (b : Bool). IsTrue b ↔ P n) (sym (ap (λ (xs : List Bool). mark_at xs n) grown ∙ get_or_push marks mark false n size)) here)
 
 -- more and more
 pub finds_on : (out image : List ℕ) (old mid new : Found) → FindsMore out image old mid → FindsMore out image mid new → FindsMore out image old new

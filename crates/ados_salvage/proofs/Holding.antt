@@ -56,12 +56,13 @@ with_found t old new are adds = record {
   besides = All-append (λ (entry : Salvaged). entry.found ≡ true) are.found adds.found are.besides adds.besides;
 }
 
-module _ (given : List ℕ) (validated : Bool) (old : Saved) (accepted : old.accepted ≡ true) (accepts : Accepts given validated old.image) (tree : (t : Tree) → Stands old.image t → AreOfTree t old)
+module _ (given : List ℕ) (validated listed : Bool) (old : Saved) (accepted : old.accepted ≡ true) (counted : old.fillers ≡ listed) (accepts : Accepts given validated old.image) (tree : (t : Tree) → Stands old.image t → AreOfTree t old)
     (trust : TellsTrust given old.trusted) (deleted : AreDeleted given old.deleted) where
   -- the bitmap is not trusted, and nothing is found
-  pub saves_alone : old.trusted ≡ false → FindsNone old → SavesTree given old
+  pub saves_alone : old.trusted ≡ false → FindsNone old → SavesTree listed given old
   saves_alone e none = record {
     accepted = accepted;
+    counted = counted;
     validated = validated;
     accepts = accepts;
     tree = tree;
@@ -71,9 +72,10 @@ module _ (given : List ℕ) (validated : Bool) (old : Saved) (accepted : old.acc
   }
 
   -- it is trusted, and the sound headers among the lost blocks are found
-  pub saves_beside : old.trusted ≡ true → (new : Saved) → AddsLost old new → SavesTree given new
+  pub saves_beside : old.trusted ≡ true → (new : Saved) → AddsLost old new → SavesTree listed given new
   saves_beside e new adds = record {
     accepted = adds.accepted ∙ accepted;
+    counted = adds.fillers ∙ counted;
     validated = validated;
     accepts = subst (Accepts given validated) (sym adds.image) accepts;
     tree = λ t s. with_found t old new (tree t (subst (λ (image : List ℕ). Stands image t) adds.image s)) adds;

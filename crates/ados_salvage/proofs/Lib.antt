@@ -23,6 +23,7 @@ mod LostByOwner
 mod AccountCommon
 mod Marking
 mod Walking
+mod DamagedHeaders
 mod OwnBlocks
 mod AllKinds
 mod Telling
@@ -42,4 +43,6 @@ pub mod Trusting
 pub mod Recovering
 pub mod ListingDeleted
 pub mod Keeping
+pub mod Mending
+pub mod NamedBlocks
 pub mod Hiding

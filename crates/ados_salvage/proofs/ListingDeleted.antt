@@ -1,5 +1,5 @@
 -- The deleted entries, each with what can be recovered of it.
-use Rattle.ados_salvage.proofs.KnownCommon.{◌≡◌, ℕ, ◌<◌, List, length, map, get_or, All, Contains, subst, arith, get_or-map, length-map, All-map, Deleted, HasRecovery, IsDeleted, ListsDeleted, AreDeleted}
+use Rattle.ados_salvage.proofs.KnownCommon.{◌≡◌, ℕ, ◌<◌, List, length, map, get_or, All, subst, arith, get_or-map, length-map, Deleted, HasRecovery, IsDeleted, ListsDeleted, AreDeleted}
 
 -- entries with these headers in their order, and what can be recovered of each
 pub lists_all : (image : List ℕ) (entries : List Deleted) → AreDeleted image (map (λ entry. entry.header) entries) → All (λ entry. HasRecovery image entry.header entry.recovery) entries → ListsDeleted image entries

@@ -47,11 +47,11 @@ module _ {X : Type 0} (P : X → ℕ → Type 0) where
       let empty : Contains (take 0 xs) o.one = subst (λ (k : ℕ). Contains (take k xs) o.one) none o.listed in
       absurd (omega (arith, empty.1))
 
-  of_more : (xs : List X) (x : X) (b : ℕ) → OfOne P xs b ⊎ P x b → OfOne P (xs ++ x ∷ []) b
+  pub of_more : (xs : List X) (x : X) (b : ℕ) → OfOne P xs b ⊎ P x b → OfOne P (xs ++ x ∷ []) b
   of_more xs x b (inl o) = record { one = o.one; listed = Contains-append_left xs (x ∷ []) o.one o.listed; has = o.has }
   of_more xs x b (inr p) = record { one = x; listed = Contains-push xs x; has = p }
 
-  of_fewer : (xs : List X) (x : X) (b : ℕ) → OfOne P (xs ++ x ∷ []) b → OfOne P xs b ⊎ P x b
+  pub of_fewer : (xs : List X) (x : X) (b : ℕ) → OfOne P (xs ++ x ∷ []) b → OfOne P xs b ⊎ P x b
   of_fewer xs x b o = elim (Contains-push_cases xs x o.one o.listed) [
     | inl there ↦ inl (record { one = o.one; listed = there; has = o.has })
     | inr e ↦ inr (subst (λ (y : X). P y b) (sym e) o.has)

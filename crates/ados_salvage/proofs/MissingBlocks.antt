@@ -18,7 +18,9 @@ use Rattle.ados_salvage.specs.Missing.{TellsMissing, has_piece, missing_blocks, 
 unfoldable use Rattle.ados_salvage.specs.Missing.{missing_below}
 use Rattle.ados_salvage.specs.Salvaged.{missing_in}
 use Rattle.ados_salvage.specs.Saved.{IsAt}
-use Rattle.ados_salvage.specs.steps.Counting.{AreCounted, GivesFirst, GivesMore, HasNone}
+use Rattle.ados_salvage.specs.declared.numbered.Kept.{Kept}
+use Rattle.ados_salvage.specs.declared.pointer_blocks.Wanted.{Wanted}
+use Rattle.ados_salvage.specs.steps.Counting.{AreCounted, GivesFirst, GivesMore, HasNone, TakesMore}
 use Rattle.ados_salvage.specs.steps.Settling.{IsDamaged}
 
 abbrev is_for : ℕ → ℕ → Piece → Bool
@@ -185,19 +187,42 @@ module _ (image : List ℕ) (file place i there : ℕ) (old mid : List Piece) (g
         omega (arith, next, missing_more new place i, ap {B = ℕ} (λ (b : Bool). cond (not b) 1 0) here, before, g.counted none);
   }
 
-  -- it is missing
-  pub first_missing : (new : List Piece) → new ≡ mid → GivesFirst image file place (i + 1) there old new
-  first_missing new same = subst (GivesFirst image file place (i + 1) there old) (sym same) (record {
-    gives = g.gives;
-    below = λ none j d m is. omega (arith, g.below none j d m is);
-    counted = λ none.
-        let next : missing_below mid place (i + 1) ≡ missing_below mid place (suc i) = ap (missing_below mid place) (omega arith) in
-        omega (arith, next, missing_more mid place i, ap {B = ℕ} (λ (b : Bool). cond (not b) 1 0) (not_there none i (omega arith)), g.counted none);
-  })
-
   -- the rest is missing
   pub first_all : (n : ℕ) → i ≤ n → HasNone old place → there + missing_below mid place n ≡ n
   first_all n l none = omega (arith, missing_rest mid place i n l (not_there none), g.counted none)
+
+  -- up to another number all are missing
+  pub first_skipped : (n : ℕ) → i ≤ n → GivesFirst image file place n there old mid
+  first_skipped n l = record {
+    gives = g.gives;
+    below = λ none j d m is. omega (arith, g.below none j d m is, l);
+    counted = first_all n l;
+  }
+
+-- nothing more is given, one more block is, and one time after the other
+module _ (image : List ℕ) (wanted : Wanted) (earlier kept : Kept) where
+  pub takes_none : earlier.there ≤ earlier.next → (mid : List Piece) → TakesMore image wanted earlier earlier mid mid
+  takes_none few mid = record { few = few; within = λ l. l; first = λ old g. g }
+
+  module _ (first mid new : List Piece) (t : TakesMore image wanted earlier kept first mid) where
+    pub takes_one : (piece : Piece) → piece.place ≡ wanted.place → kept.next ≤ piece.at → piece.at < wanted.needed → IsDue image wanted.file piece.at piece.block → new ≡ mid ++ piece ∷ []
+        → (more : Kept) → more.next ≡ piece.at + 1 → more.there ≡ kept.there + 1 → TakesMore image wanted earlier more first new
+    takes_one piece own behind inside due added more next there = record {
+      few = omega (arith, t.few, behind, next, there);
+      within = λ l. omega (arith, inside, next);
+      first = λ old g.
+          let skipped = first_skipped image wanted.file wanted.place kept.next kept.there old mid (t.first old g) piece.at behind in
+          let given = first_given image wanted.file wanted.place piece.at kept.there old mid skipped piece new own refl due added in
+          subst (λ (n : ℕ). GivesFirst image wanted.file wanted.place n more.there old new) (sym next)
+          (subst (λ (n : ℕ). GivesFirst image wanted.file wanted.place (piece.at + 1) n old new) (sym there) given);
+    }
+
+    pub takes_then : (more : Kept) → TakesMore image wanted kept more mid new → TakesMore image wanted earlier more first new
+    takes_then more u = record {
+      few = u.few;
+      within = λ l. u.within (t.within l);
+      first = λ old g. u.first old (t.first old g);
+    }
 
 -- the block is due to its entry
 abbrev IsDueAt : List ℕ → List Salvaged → Piece → Type 0

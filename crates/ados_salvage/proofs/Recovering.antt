@@ -1,5 +1,5 @@
 -- How much of a deleted file can be recovered, by its blocks and the headers that name them.
-use Rattle.ados_salvage.proofs.KnownCommon.{◌≡◌, ◌≢◌, ℕ, zero, suc, ◌+◌, ◌-◌, ◌*◌, ◌/◌, ◌%◌, ◌<◌, ◌≤◌, ◌⊎◌, inl, inr, Bool, true, false, cond, MatchBool, count_by, List, [], length, get_or, slice_index, min, All, refl, sym, ap, ◌∙◌, subst, arith, cases_lt, InImage, HasFileType, is_several, cases_eq, get_or_default, get_or_past, block_count, has_free_bit, HasFreeBit, pointer_count, pointer_block, data_block, in_extensions, Claim, Free, One, Several, AreAllFree, AreNoneShared, HasClaim, HasCount, HasHolders, HeaderNames, FilePointsTo, IsHolderOf, IsNextExtension, IsShared, IsSoundHeader, IsUsed, IsClaimant, IsIntact, Names, own_blocks, data_needed, extensions_needed, AreAllClaims, IsClaim, claim_at}
+use Rattle.ados_salvage.proofs.KnownCommon.{◌≡◌, ◌≢◌, ℕ, zero, suc, ◌+◌, ◌-◌, ◌/◌, ◌%◌, ◌<◌, ◌≤◌, ◌⊎◌, inl, inr, Bool, true, false, cond, MatchBool, count_by, List, [], length, get_or, slice_index, min, All, refl, sym, ap, ◌∙◌, subst, arith, cases_lt, InImage, HasFileType, is_several, cases_eq, get_or_default, get_or_past, block_count, has_free_bit, HasFreeBit, pointer_count, pointer_block, data_block, in_extensions, Claim, Free, One, Several, AreAllFree, AreNoneShared, HasClaim, HasCount, HasHolders, HeaderNames, FilePointsTo, IsHolderOf, IsNextExtension, IsShared, IsSoundHeader, IsUsed, IsClaimant, IsIntact, Names, own_blocks, data_needed, extensions_needed, AreAllClaims, IsClaim, claim_at}
 use Rattle.std.proofs.lemmas.List.Sums.{get_or-le-sum_by}
 use Rattle.ados_salvage.proofs.Claiming.{alone_claims}
 use Rattle.ados_salvage.proofs.Leaving.{none_contained}

@@ -24,9 +24,9 @@ settles_none known gathered none by met lost =
     }
 
 -- the entries of the list with these headers, other ones in their places, and more behind them
-salvages_more : (out : List ℕ) (holes : List Bool) (image : List ℕ) (old new : List Salvaged) → AreSalvaged out holes image old → All (IsListed out holes image) new → AllPairs (λ a b. a ≢ b) (headers_of new)
-    → ((block : ℕ) → Contains (headers_of old) block → Contains (headers_of new) block) → AreSalvaged out holes image new
-salvages_more out holes image old new s listed once kept = record {
+salvages_more : (out : List ℕ) (holes : List Bool) (fillers : Bool) (image : List ℕ) (old new : List Salvaged) → AreSalvaged out holes fillers image old → All (IsListed out holes fillers image) new → AllPairs (λ a b. a ≢ b) (headers_of new)
+    → ((block : ℕ) → Contains (headers_of old) block → Contains (headers_of new) block) → AreSalvaged out holes fillers image new
+salvages_more out holes fillers image old new s listed once kept = record {
   told = listed;
   once = once;
   sound = λ block is. kept block (s.sound block is);
@@ -60,15 +60,15 @@ module _ (known : Known) (next : ℕ) (old new : Gathered) (s : AreSettled known
   settles_more e header after free is loose grown left gives =
       let more_headers : headers_of new.entries.items ≡ headers_of old.entries.items ++ header ∷ [] =
       ap headers_of grown ∙ map-append (λ (entry : Salvaged). entry.header) old.entries.items (e ∷ []) ∙ ap (λ (b : ℕ). headers_of old.entries.items ++ b ∷ []) is in
-      let listed : IsListed known.left_out known.holes.items known.image e = inr (subst (λ (b : ℕ). IsLoose known.left_out known.image b e.state) (sym is) loose) in
+      let listed : IsListed known.left_out known.holes.items known.fillers known.image e = inr (subst (λ (b : ℕ). IsLoose known.left_out known.image b e.state) (sym is) loose) in
       let other : (b : ℕ) → Contains (headers_of old.entries.items) b → b ≢ header = λ b there same. elim (s.placed b there) [
         | inl some ↦ free (subst (λ (k : ℕ). IsSome (place_at old.places.items k)) same some)
         | inr below ↦ absurd (omega (arith, below, after, same))
       ] in
       record {
         sure = s.sure;
-        salvaged = salvages_more known.left_out known.holes.items known.image old.entries.items new.entries.items s.salvaged
-            (subst (All (IsListed known.left_out known.holes.items known.image)) (sym grown) (All-push (IsListed known.left_out known.holes.items known.image) old.entries.items e s.salvaged.told listed))
+        salvaged = salvages_more known.left_out known.holes.items known.fillers known.image old.entries.items new.entries.items s.salvaged
+            (subst (All (IsListed known.left_out known.holes.items known.fillers known.image)) (sym grown) (All-push (IsListed known.left_out known.holes.items known.fillers known.image) old.entries.items e s.salvaged.told listed))
             (subst (AllPairs (λ a b. a ≢ b)) (sym more_headers) (all_pairs_push (λ (a : ℕ) (b : ℕ). a ≢ b) (headers_of old.entries.items) header s.salvaged.once
             (λ k d l. other (get_or (headers_of old.entries.items) k d) (k, l, get_or_default (headers_of old.entries.items) k _ d l))))
             (λ b there. subst (λ (xs : List ℕ). Contains xs b) (sym more_headers) (Contains-append_left (headers_of old.entries.items) (header ∷ []) b there));
@@ -91,7 +91,7 @@ module _ (known : Known) (next : ℕ) (old new : Gathered) (s : AreSettled known
   pub settles_same : (after : ℕ) → next ≤ after → new.entries.items ≡ old.entries.items → new.giving.left ≡ old.giving.left → new.giving.pieces.items ≡ old.giving.pieces.items → AreSettled known after new
   settles_same after more entries left given = record {
     sure = s.sure;
-    salvaged = subst (AreSalvaged known.left_out known.holes.items known.image) (sym entries) s.salvaged;
+    salvaged = subst (AreSalvaged known.left_out known.holes.items known.fillers known.image) (sym entries) s.salvaged;
     placed = λ b there. subst (λ (ps : List (Option ℕ)). IsSome (place_at ps b) ⊎ (b < after)) (sym places)
         (elim (s.placed b (subst (λ (es : List Salvaged). Contains (headers_of es) b) entries there)) [
           | inl some ↦ inl some
@@ -112,11 +112,11 @@ module _ (known : Known) (next : ℕ) (old new : Gathered) (s : AreSettled known
       let still : headers_of new.entries.items ≡ headers_of old.entries.items =
       ap headers_of replaced ∙ headers_set old.entries.items place e inside (ap (λ (entry : Salvaged). entry.header) there ∙ sym same) in
       let empty : broken_length (get_or old.entries.items place e).state ≡ 0 = ap (λ (entry : Salvaged). broken_length entry.state) there ∙ ap broken_length lost in
-      let listed : IsListed known.left_out known.holes.items known.image e = inr (subst (λ (b : ℕ). IsLoose known.left_out known.image b e.state) (sym same) loose) in
+      let listed : IsListed known.left_out known.holes.items known.fillers known.image e = inr (subst (λ (b : ℕ). IsLoose known.left_out known.image b e.state) (sym same) loose) in
       record {
         sure = s.sure;
-        salvaged = salvages_more known.left_out known.holes.items known.image old.entries.items new.entries.items s.salvaged
-            (subst (All (IsListed known.left_out known.holes.items known.image)) (sym replaced) (All-set (IsListed known.left_out known.holes.items known.image) old.entries.items place e listed s.salvaged.told))
+        salvaged = salvages_more known.left_out known.holes.items known.fillers known.image old.entries.items new.entries.items s.salvaged
+            (subst (All (IsListed known.left_out known.holes.items known.fillers known.image)) (sym replaced) (All-set (IsListed known.left_out known.holes.items known.fillers known.image) old.entries.items place e listed s.salvaged.told))
             (subst (AllPairs (λ a b. a ≢ b)) (sym still) s.salvaged.once) (λ b there. subst (λ (xs : List ℕ). Contains xs b) (sym still) there);
         placed = λ b there. subst (λ (ps : List (Option ℕ)). IsSome (place_at ps b) ⊎ (b < next)) (sym places) (s.placed b (subst (λ (xs : List ℕ). Contains xs b) still there));
         giving = giving;

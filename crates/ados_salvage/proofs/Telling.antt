@@ -4,7 +4,7 @@ use Rattle.std.specs.List.{range_with_len}
 use Rattle.std.proofs.lemmas.List.FromFn.{map-range_with_len_more}
 use Rattle.ados_salvage.proofs.InOrder.{ListsBelow}
 use Rattle.ados_salvage.specs.Salvaged.{Saved}
-use Rattle.ados_salvage.proofs.AccountCommon.{block_count, InImage, HasExtensionBlock, Adds, HasNoMarks, IsMarked, IsOfDamaged, OfOne}
+use Rattle.ados_salvage.proofs.AccountCommon.{block_count, InImage, IsExtensionOf, Adds, HasNoMarks, IsMarked, IsOfDamaged, OfOne}
 use Rattle.ados_salvage.specs.Account.HasExtensionBlock.{first, further}
 use Rattle.ados_salvage.specs.Parts.{AreExtensions, ListsAll}
 use Rattle.ados_salvage.specs.declared.account.part.Told.{Told}
@@ -30,9 +30,10 @@ lists_all marks n blocks all h = record {
 }
 
 -- an extension block is inside the image
-extension_inside : (image : List ℕ) (file block : ℕ) → HasExtensionBlock image file block → InImage image block
-extension_inside image file block (first inside next) = next.inside
-extension_inside image file block (further before next) = next.inside
+extension_inside : (image : List ℕ) (file block : ℕ) → IsExtensionOf image file block → InImage image block
+extension_inside image file block (inl (first inside next)) = next.inside
+extension_inside image file block (inl (further before next)) = next.inside
+extension_inside image file block (inr loose) = loose.inside
 
 -- the marked blocks are exactly the extension blocks of the files that are not whole
 pub are_extensions : (saved : Saved) (none marks : List Bool) (blocks : List ℕ) → HasNoMarks saved.image none → Adds (OfOne (IsOfDamaged saved.image) saved.entries) none marks

@@ -1,5 +1,5 @@
 -- The deleted entries, in the image as they were read.
-use Rattle.ados_salvage.proofs.Common.{◌≡◌, ℕ, Bool, List, [], sym, subst, AreGathered, AreGatheredBy, Deleted, Gathered, IsTrustedBitmap, Known}
+use Rattle.ados_salvage.proofs.Common.{◌≡◌, ℕ, Bool, false, List, [], sym, subst, AreGathered, AreGatheredBy, Deleted, Gathered, IsTrustedBitmap, Known}
 use Rattle.ados_salvage.specs.Deleted.{ListsDeleted}
 use Rattle.ados_salvage.specs.Listing.{AreFoundIn}
 use Rattle.ados_salvage.specs.steps.Undeleting.{AreHeaders}
@@ -14,8 +14,9 @@ module _ (image : List ℕ) (known : Known) (deleted : List Deleted) (is : AreFo
   pub listed_in : ListsDeleted known.image deleted
   listed_in = subst (λ (xs : List ℕ). ListsDeleted xs deleted) (sym is.same) is.listed
 
-  -- nothing is left out, nothing was told before, and nothing is a hole
-  pub gathered_plain : (gathered : Gathered) → AreGatheredBy known gathered → AreGathered 0 [] [] known.image gathered
-  gathered_plain gathered by = subst (λ (holes : List Bool). AreGathered 0 [] holes known.image gathered) is.no_holes
-      (subst (λ (out : List ℕ). AreGathered 0 out known.holes.items known.image gathered) is.none_left_out
-      (subst (λ (n : ℕ). AreGathered n known.left_out known.holes.items known.image gathered) is.none_before by.so_far))
+  -- nothing is left out, nothing was told before, nothing is a hole, and fillers do not count
+  pub gathered_plain : (gathered : Gathered) → AreGatheredBy known gathered → AreGathered 0 [] [] false known.image gathered
+  gathered_plain gathered by = subst (λ (fillers : Bool). AreGathered 0 [] [] fillers known.image gathered) is.uncounted
+      (subst (λ (holes : List Bool). AreGathered 0 [] holes known.fillers known.image gathered) is.no_holes
+      (subst (λ (out : List ℕ). AreGathered 0 out known.holes.items known.fillers known.image gathered) is.none_left_out
+      (subst (λ (n : ℕ). AreGathered n known.left_out known.holes.items known.fillers known.image gathered) is.none_before by.so_far)))

@@ -1,7 +1,7 @@
 -- The extension blocks of a file while they are marked, one by one.
 use Rattle.std.proofs.Common.{◌≡◌, ℕ, ◌<◌, ◌⊎◌, inl, inr, Bool, true, List, length, length-set, sym, ap, ◌∙◌, subst, arith}
 use Rattle.std.proofs.Math.ListN.{set}
-use Rattle.ados_salvage.proofs.AccountCommon.{block_count, parent_key, InImage, HasExtensionBlock, IsNextExtension, Adds, AreClosed, AreMarkedAfter, IsDamagedFile, IsMarked, IsNewAfter, IsOfDamaged, mark_at}
+use Rattle.ados_salvage.proofs.AccountCommon.{block_count, parent_key, InImage, HasExtensionBlock, IsNextExtension, Adds, AreClosed, AreMarkedAfter, IsDamagedFile, IsMarked, IsLinkedOf, IsNewAfter, mark_at}
 use Rattle.ados_salvage.specs.declared.salvaged.Salvaged.{Salvaged}
 use Rattle.ados_salvage.specs.Account.HasExtensionBlock.{first, further}
 use Rattle.ados_salvage.proofs.Marking.{adds_none}
@@ -102,7 +102,7 @@ has_inside : {image : List ℕ} {file block : ℕ} → HasExtensionBlock image f
 has_inside (first i n) = i
 has_inside (further h n) = has_inside h
 
--- an entry without extension blocks
-pub adds_no_extension : (image : List ℕ) (entry : Salvaged) (marks : List Bool) → (¬ IsDamagedFile entry.state) ⊎ (¬ InImage image entry.header) → Adds (IsOfDamaged image entry) marks marks
-adds_no_extension image entry marks (inl whole) = adds_none (IsOfDamaged image entry) marks (λ b l h. whole h.0)
-adds_no_extension image entry marks (inr outside) = adds_none (IsOfDamaged image entry) marks (λ b l h. outside (has_inside h.1))
+-- an entry to whose extension blocks no link leads
+pub adds_no_extension : (image : List ℕ) (entry : Salvaged) (marks : List Bool) → (¬ IsDamagedFile entry.state) ⊎ (¬ InImage image entry.header) → Adds (IsLinkedOf image entry) marks marks
+adds_no_extension image entry marks (inl whole) = adds_none (IsLinkedOf image entry) marks (λ b l h. whole h.0)
+adds_no_extension image entry marks (inr outside) = adds_none (IsLinkedOf image entry) marks (λ b l h. outside (has_inside h.1))

@@ -8,6 +8,7 @@ use Rattle.ados_salvage.specs.declared.salvaged.Salvaged.{Salvaged}
 use Rattle.ados_salvage.specs.declared.salvaged.State.{State}
 use Rattle.ados_salvage.specs.declared.salvaged.State.TheVariants as states
 use Rattle.ados_salvage.specs.Doubtful.{LooksLikeExtension}
+use Rattle.ados_salvage.specs.Loose.{IsLooseExtension}
 use Rattle.ados_salvage.specs.Salvaged.{Saved}
 use Rattle.ados_salvage.specs.Marks.{IsHole}
 use Rattle.ados_salvage.specs.Sound.{Names}
@@ -26,12 +27,16 @@ pub data HasExtensionBlock (image : List ℕ) (file : ℕ) : ℕ → Type 0 wher
   first : {block : ℕ} → InImage image file → IsNextExtension image file file block → HasExtensionBlock image file block
   further : {holder block : ℕ} → HasExtensionBlock image file holder → IsNextExtension image file holder block → HasExtensionBlock image file block
 
+-- an extension block of a file that is not whole: links lead to it; or it is one of FFS with a right checksum, whatever names it
+abbrev pub IsExtensionOf : List ℕ → ℕ → ℕ → Type 0
+IsExtensionOf image file block = HasExtensionBlock image file block ⊎ IsLooseExtension image file block
+
 -- the block belongs to the entry with this header and this state: it is the header; a whole file has also all other blocks that it names, and
 -- a file that is not whole has also its extension blocks
 abbrev pub BelongsTo : List ℕ → ℕ → State → ℕ → Type 0
 BelongsTo image header states.Whole block = Names image header block
-BelongsTo image header (states.Doubtful heading length) block = (block ≡ header) ⊎ HasExtensionBlock image header block
-BelongsTo image header (states.Broken missing cut length) block = (block ≡ header) ⊎ HasExtensionBlock image header block
+BelongsTo image header (states.Doubtful heading length) block = (block ≡ header) ⊎ IsExtensionOf image header block
+BelongsTo image header (states.Broken missing cut length) block = (block ≡ header) ⊎ IsExtensionOf image header block
 BelongsTo image header state block = block ≡ header
 
 -- the block has the property for one of these
@@ -48,7 +53,7 @@ IsDamagedFile state = ⊥
 
 -- an extension block of an entry that is a file and not whole
 abbrev pub IsOfDamaged : List ℕ → Salvaged → ℕ → Type 0
-IsOfDamaged image entry block = IsDamagedFile entry.state × HasExtensionBlock image entry.header block
+IsOfDamaged image entry block = IsDamagedFile entry.state × IsExtensionOf image entry.header block
 
 -- a block that is accounted for: the root, a bitmap block, a block of an entry, or one that was given to a file that is not whole
 pub data IsAccounted (saved : Saved) (block : ℕ) : Type 0 where

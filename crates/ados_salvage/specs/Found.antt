@@ -1,8 +1,11 @@
 -- Headers to which the root does not lead: which files keep their blocks against them, and which of them an accepted image still has.
-use Rattle.std.specs.Prelude.{ℕ, ◌<◌, ◌⊎◌, Bool, List, All, AllPairs, Contains}
+-- And which files are saved whole.
+use Rattle.std.specs.Prelude.{◌≡◌, ℕ, ◌<◌, ◌⊎◌, Bool, true, List, All, AllPairs, Contains}
 use Rattle.adf_block.specs.Whole.{HasFreeBit}
+use Rattle.ados_census.specs.Fillers.{HoldsFiller}
 use Rattle.ados_model.specs.declared.role.Role.{Role}
 use Rattle.ados_model.specs.Faults.{InImage, IsEntry, Reached}
+use Rattle.ados_model.specs.File.{data_blocks}
 use Rattle.ados_salvage.specs.Doubtful.{LooksLikeHeader}
 use Rattle.ados_salvage.specs.Sound.{IsSoundHeader, IsWhole}
 
@@ -24,9 +27,18 @@ pub record KeepsBlocks (out : List ℕ) (holes : List Bool) (image : List ℕ) (
   pub are_unreached : AreUnreached out image unreached
   pub whole : IsWhole unreached holes image file
 
--- a file that is saved whole: no other sound file claims one of its blocks, or it keeps them
-abbrev pub IsSavedWhole : List ℕ → List Bool → List ℕ → ℕ → Type 0
-IsSavedWhole out holes image file = IsWhole out holes image file ⊎ KeepsBlocks out holes image file
+-- a file that has all its blocks: no other sound file claims one of them, or it keeps them
+abbrev pub HasItsBlocks : List ℕ → List Bool → List ℕ → ℕ → Type 0
+HasItsBlocks out holes image file = IsWhole out holes image file ⊎ KeepsBlocks out holes image file
+
+-- no data block of the file holds a known filler from end to end
+abbrev pub HasNoFiller : List ℕ → ℕ → Type 0
+HasNoFiller image file = All (λ block. ¬ HoldsFiller image block) (data_blocks image file)
+
+-- a file that is saved whole: it has all its blocks, and if fillers count, none of its data blocks holds one
+pub record IsSavedWhole (out : List ℕ) (holes : List Bool) (fillers : Bool) (image : List ℕ) (file : ℕ) : Type 0 where
+  pub has : HasItsBlocks out holes image file
+  pub no_filler : fillers ≡ true → HasNoFiller image file
 
 -- the block is marked used, and nothing names it
 pub record IsLostBlock (image : List ℕ) (block : ℕ) : Type 0 where

@@ -1,6 +1,7 @@
 -- What is saved of an image, and the descriptions of entries. Definitions for steps are in `steps`.
 pub mod Due
 pub mod Kind
+pub mod PutRight
 pub mod Loose
 pub mod Holes
 pub mod Lost

@@ -25,14 +25,15 @@ use Rattle.ados_salvage.specs.declared.salvaged.Salvaged.{Salvaged}
 use Rattle.ados_salvage.specs.declared.salvaged.State.{State}
 use Rattle.ados_salvage.specs.declared.salvaged.State.TheVariants as states
 use Rattle.ados_salvage.specs.Due.{IsDue}
-use Rattle.ados_salvage.specs.Kind.{IsReadAs}
+use Rattle.ados_salvage.specs.PutRight.{IsReadDamaged}
 use Rattle.ados_salvage.specs.Loose.{IsLeft}
 use Rattle.ados_salvage.specs.Lost.{IsLost}
 use Rattle.ados_salvage.specs.Missing.{TellsMissing}
 use Rattle.ados_salvage.specs.Saved.{IsAt}
 
 -- how contracts see a salvage: whether the image was accepted, the image as it was read, whether its bitmap is trusted, its
--- entries, the headers that were left out, the blocks given to files that are not whole, and the marks of the holes
+-- entries, the headers that were left out, the blocks given to files that are not whole, the marks of the holes, and whether a known
+-- filler in a data block counts against its file
 pub record Saved : Type 0 where
   pub accepted : Bool
   pub image : List ℕ
@@ -41,6 +42,7 @@ pub record Saved : Type 0 where
   pub deleted : List ℕ
   pub given : List Piece
   pub holes : List Bool
+  pub fillers : Bool
 
 -- a name with `~` and the number of a header behind it, so many times
 unfoldable pub ended : List ℕ → ℕ → ℕ → List ℕ
@@ -53,25 +55,25 @@ HasHeaderState out image block heads.Sound = IsSoundHeader image block
 HasHeaderState out image block heads.Doubtful = IsDoubtfulHeader out image block
 HasHeaderState out image block heads.Gone = ⊥
 
--- the state fits the header, where some headers are left out and some blocks are holes: a directory or file whose header is sound or
--- doubtful, a whole file, or a broken one, which is not whole
-abbrev pub HasState : List ℕ → List Bool → List ℕ → ℕ → State → Type 0
-HasState out holes image block states.Directory = IsSoundHeader image block × HasDirectoryType image block
-HasState out holes image block states.DoubtfulDirectory = IsDoubtfulHeader out image block × HasDirectoryType image block
-HasState out holes image block states.Whole = IsSavedWhole out holes image block
-HasState out holes image block (states.Doubtful heading length) = HasHeaderState out image block heading × HasFileType image block × ¬ IsSavedWhole out holes image block
-HasState out holes image block (states.Broken missing cut length) = HasFileType image block × ¬ IsSavedWhole out holes image block
-HasState out holes image block states.Lost = ⊥
+-- the state fits the header, where some headers are left out, some blocks are holes, and fillers count or not: a directory or file whose
+-- header is sound or doubtful, a whole file, or a broken one, which is not whole
+abbrev pub HasState : List ℕ → List Bool → Bool → List ℕ → ℕ → State → Type 0
+HasState out holes fillers image block states.Directory = IsSoundHeader image block × HasDirectoryType image block
+HasState out holes fillers image block states.DoubtfulDirectory = IsDoubtfulHeader out image block × HasDirectoryType image block
+HasState out holes fillers image block states.Whole = IsSavedWhole out holes fillers image block
+HasState out holes fillers image block (states.Doubtful heading length) = HasHeaderState out image block heading × HasFileType image block × ¬ IsSavedWhole out holes fillers image block
+HasState out holes fillers image block (states.Broken missing cut length) = HasFileType image block × ¬ IsSavedWhole out holes fillers image block
+HasState out holes fillers image block states.Lost = ⊥
 
 -- the header is sound or doubtful, and the description has its fields, but for a comment that is too long; where the entry is, and whether it
 -- was recovered, are free
-pub record IsSalvaged (out : List ℕ) (holes : List Bool) (image : List ℕ) (entry : Salvaged) : Type 0 where
+pub record IsSalvaged (out : List ℕ) (holes : List Bool) (fillers : Bool) (image : List ℕ) (entry : Salvaged) : Type 0 where
   pub header : IsHeader out image entry.header
   pub name : entry.name ≡ text_at image entry.header NAME_BYTE
   pub protection_bits : entry.protection.0 ≡ protection image entry.header
   pub date_field : entry.date ≡ date_at image entry.header DATE
   pub comment : byte_at image entry.header COMMENT_BYTE ≤ 79 → entry.comment ≡ text_at image entry.header COMMENT_BYTE
-  pub state : HasState out holes image entry.header entry.state
+  pub state : HasState out holes fillers image entry.header entry.state
 
 -- the entry is lost, and has the name in its block if that is valid; the rest of the description is free
 pub record IsLostEntry (out image : List ℕ) (entry : Salvaged) : Type 0 where
@@ -80,8 +82,8 @@ pub record IsLostEntry (out image : List ℕ) (entry : Salvaged) : Type 0 where
   pub state : entry.state ≡ states.Lost
 
 -- the description of a sound or doubtful header, or of a lost entry
-abbrev pub IsTold : List ℕ → List Bool → List ℕ → Salvaged → Type 0
-IsTold out holes image entry = IsSalvaged out holes image entry ⊎ IsLostEntry out image entry
+abbrev pub IsTold : List ℕ → List Bool → Bool → List ℕ → Salvaged → Type 0
+IsTold out holes fillers image entry = IsSalvaged out holes fillers image entry ⊎ IsLostEntry out image entry
 
 -- the state of a file without a header: no data block is missing, or some are or it is cut short
 abbrev pub IsGone : State → Type 0
@@ -97,8 +99,8 @@ pub record IsLoose (out image : List ℕ) (header : ℕ) (state : State) : Type 
   pub gone : IsGone state
 
 -- the description of an entry that is told, or of a file without a header
-abbrev pub IsListed : List ℕ → List Bool → List ℕ → Salvaged → Type 0
-IsListed out holes image entry = IsTold out holes image entry ⊎ IsLoose out image entry.header entry.state
+abbrev pub IsListed : List ℕ → List Bool → Bool → List ℕ → Salvaged → Type 0
+IsListed out holes fillers image entry = IsTold out holes fillers image entry ⊎ IsLoose out image entry.header entry.state
 
 -- the headers of these entries
 abbrev pub headers_of : List Salvaged → List ℕ
@@ -106,8 +108,8 @@ headers_of found = map (λ entry. entry.header) found
 
 -- the entries are the told ones, each once: the sound headers but those that are left out, the doubtful headers and the
 -- lost entries of the image; and files without a header, some of them in place of a lost entry
-pub record AreSalvaged (out : List ℕ) (holes : List Bool) (image : List ℕ) (found : List Salvaged) : Type 0 where
-  pub told : All (IsListed out holes image) found
+pub record AreSalvaged (out : List ℕ) (holes : List Bool) (fillers : Bool) (image : List ℕ) (found : List Salvaged) : Type 0 where
+  pub told : All (IsListed out holes fillers image) found
   pub once : AllPairs (λ a b. a ≢ b) (headers_of found)
   pub sound : (block : ℕ) → IsToldHeader out image block → Contains (headers_of found) block
   pub doubtful : (block : ℕ) → IsDoubtfulHeader out image block → Contains (headers_of found) block
@@ -179,7 +181,7 @@ pub record AreDue (saved : Saved) : Type 0 where
 pub record SavesSound (saved : Saved) : Type 0 where
   pub trust : TellsTrust saved.image saved.trusted
   pub deleted : AreDeleted saved.image saved.deleted
-  pub salvaged : AreSalvaged saved.deleted saved.holes saved.image saved.entries
+  pub salvaged : AreSalvaged saved.deleted saved.holes saved.fillers saved.image saved.entries
   pub apart : AreApart saved.given
   pub there : All (λ piece. ¬ IsHole saved.holes piece.block) saved.given
   pub bounded : broken_total saved.entries ≤ 4 * length saved.image
@@ -193,7 +195,7 @@ pub record SavesSound (saved : Saved) : Type 0 where
 pub record FindsLost (saved : Saved) : Type 0 where
   pub out : List ℕ
   pub hidden : AreHidden saved.image out
-  pub told : All (λ entry. entry.found ≡ true → IsSalvaged out saved.holes saved.image entry) saved.entries
+  pub told : All (λ entry. entry.found ≡ true → IsSalvaged out saved.holes saved.fillers saved.image entry) saved.entries
   pub once : AllPairs (λ a b. a ≢ b) (headers_of saved.entries)
   pub all : (block : ℕ) → IsLostHeader saved.image block → Contains (headers_of saved.entries) block
   pub apart : AreApart saved.given
@@ -208,9 +210,11 @@ abbrev pub FindsNone : Saved → Type 0
 FindsNone saved = All (λ entry. entry.found ≡ false) saved.entries
 
 -- the image was accepted, possibly with a new bitmap, and these are the entries of its tree, and its deleted entries; its
--- bitmap, as it was given, is trusted or not. Where it is, the sound headers among the lost blocks are found, and else none
-pub record SavesTree (image : List ℕ) (saved : Saved) : Type 0 where
+-- bitmap, as it was given, is trusted or not. Where it is, the sound headers among the lost blocks are found, and else none. Fillers
+-- count if a list of unread blocks was given
+pub record SavesTree (listed : Bool) (image : List ℕ) (saved : Saved) : Type 0 where
   pub accepted : saved.accepted ≡ true
+  pub counted : saved.fillers ≡ listed
   pub validated : Bool
   pub accepts : Accepts image validated saved.image
   pub tree : (t : Tree) → Stands saved.image t → AreOfTree t saved
@@ -218,16 +222,17 @@ pub record SavesTree (image : List ℕ) (saved : Saved) : Type 0 where
   pub trust : TellsTrust image saved.trusted
   pub deleted : AreDeleted image saved.deleted
 
--- the image was refused, and these are its told entries
+-- the image was refused, and these are its told entries. Fillers count
 pub record SavesRest (image : List ℕ) (saved : Saved) : Type 0 where
   pub refused : saved.accepted ≡ false
-  pub read : IsReadAs image saved.image
+  pub counted : saved.fillers ≡ true
+  pub read : IsReadDamaged image saved.image
   pub saves : SavesSound saved
 
 -- one of both, and these are the holes
-abbrev pub SavesBeside : List Bool → List ℕ → Saved → Type 0
-SavesBeside holes image saved = (saved.holes ≡ holes) × (SavesTree image saved ⊎ SavesRest image saved)
+abbrev pub SavesBeside : List Bool → Bool → List ℕ → Saved → Type 0
+SavesBeside holes listed image saved = (saved.holes ≡ holes) × (SavesTree listed image saved ⊎ SavesRest image saved)
 
--- everything that can be told of an image without holes
+-- everything that can be told of an image without holes and without a list of them
 abbrev pub Salvages : List ℕ → Saved → Type 0
-Salvages image saved = SavesBeside [] image saved
+Salvages image saved = SavesBeside [] false image saved

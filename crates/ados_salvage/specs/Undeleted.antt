@@ -1,5 +1,5 @@
 -- The deleted entries of an image with the directories that they were in.
-use Rattle.std.specs.Prelude.{◌≡◌, ℕ, ◌⊎◌, ◌<◌, List, [], length, slice_index, slice_index_or, All, Contains, Option, Some, None, IsSome}
+use Rattle.std.specs.Prelude.{◌≡◌, ℕ, ◌⊎◌, ◌<◌, List, [], length, slice_index, slice_index_or, false, All, Contains, Option, Some, None, IsSome}
 use Rattle.ados_salvage.specs.Deleted.{IsDeleted, IsTrustedBitmap, ListsDeleted}
 use Rattle.ados_salvage.specs.declared.undeleted.Undeleted.{Undeleted}
 use Rattle.ados_salvage.specs.declared.undeleted.UndeletedEntries.{UndeletedEntries}
@@ -17,7 +17,7 @@ pub record ArePlaces (headers : List ℕ) (places : List (Option ℕ)) : Type 0 
 pub record IsUndeleted (image : List ℕ) (found : Undeleted) : Type 0 where
   pub same : found.salvage.image ≡ image
   pub deleted : ListsDeleted image found.deleted.items
-  pub told : All (IsTold [] [] image) found.salvage.entries
+  pub told : All (IsTold [] [] false image) found.salvage.entries
   pub places : ArePlaces (headers_of found.salvage.entries) found.places.items
   pub there : (block : ℕ) → IsDeleted image block → IsSome (slice_index_or found.places.items block None)
 

@@ -13,3 +13,4 @@ pub mod Naming
 pub mod Heading
 pub mod Deleting
 pub mod Leaving
+pub mod Mending

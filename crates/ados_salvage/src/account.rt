@@ -7,6 +7,7 @@ mod extensions;
 mod part;
 mod unaccounted;
 
+pub(crate) use accounted::{mark, no_marks};
 pub use blocks::told_blocks;
 pub use part::{Part, Told};
 pub use unaccounted::unaccounted_blocks;

@@ -12,7 +12,7 @@ use std::alloc::{AllocError, Global};
 /// The salvage of an accepted image, with the sound headers among its lost blocks behind the entries of its tree.
 ///
 /// A file among them is whole as on a damaged image: it is sound, no file of the tree and no other one among them has one of its
-/// blocks, and none of these is a hole.
+/// blocks, none of these is a hole, and if fillers count, none of its data blocks holds one.
 pub(crate) fn with_lost(alloc: Global, tree: Salvage) -> Result<Salvage, AllocError>
     requires trusted { tree.trusted ≡ true }
     requires tree { AreOfOneTree tree.image tree.entries }
@@ -24,9 +24,10 @@ pub(crate) fn with_lost(alloc: Global, tree: Salvage) -> Result<Salvage, AllocEr
         entries,
         deleted,
         holes,
+        fillers,
         ..
     } = tree;
-    let known = Known::with_lost(alloc, image, holes, entries.len())?;
+    let known = Known::with_lost(alloc, image, holes, fillers, entries.len())?;
     let mut gathered = Gathered::behind(alloc, &known.image, &known.holes, entries)?;
     add_unreached(&known, &mut gathered)?;
     let Gathered {
@@ -35,7 +36,12 @@ pub(crate) fn with_lost(alloc: Global, tree: Salvage) -> Result<Salvage, AllocEr
         ..
     } = gathered;
     let Giving { pieces, .. } = giving;
-    let Known { image, holes, .. } = known;
+    let Known {
+        image,
+        holes,
+        fillers,
+        ..
+    } = known;
     Ok(Salvage {
         accepted,
         image,
@@ -44,5 +50,6 @@ pub(crate) fn with_lost(alloc: Global, tree: Salvage) -> Result<Salvage, AllocEr
         deleted,
         pieces,
         holes,
+        fillers,
     })
 }

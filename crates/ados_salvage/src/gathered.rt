@@ -1,5 +1,5 @@
 //! The entries of a damaged image, while they are gathered.
-ghost use Rattle.std.specs.Prelude.{◌≡◌, ◌<◌, ◌↔◌, ◌++◌, ◌∷◌, [], ℕ, List, None, length, IfOk, IsSome, IsTrue, OnOk};
+ghost use Rattle.std.specs.Prelude.{◌≡◌, ◌<◌, ◌↔◌, ◌++◌, ◌∷◌, [], ℕ, Bool, List, None, length, IfOk, IsSome, IsTrue, OnOk};
 ghost use Rattle.adf_block.specs.Image.{block_count};
 ghost use Rattle.ados_salvage.specs.Known.{AreKnown};
 ghost use Rattle.ados_salvage.specs.declared.salvaged.Salvaged.{Salvaged as Entry};
@@ -33,7 +33,7 @@ pub(crate) struct Gathered {
 impl Gathered {
     /// No entries of an image with these holes.
     pub(crate) fn new(alloc: Global, image: &Image, holes: &[bool]) -> Result<Gathered, AllocError>
-        ensures { IfOk result (λ gathered. (out : List ℕ) → AreGathered 0 out holes.now image.now gathered) }
+        ensures { IfOk result (λ gathered. (out : List ℕ) (fillers : Bool) → AreGathered 0 out holes.now fillers image.now gathered) }
     {
         // A block has at most one entry. A list that grows would take twice the memory while it is copied.
         let entries = Vec::with_capacity(alloc, image.blocks() as usize)?;
@@ -48,7 +48,7 @@ impl Gathered {
         entries: Vec<Salvaged>,
     ) -> Result<Gathered, AllocError>
         requires { AreOfOneTree image.now entries.items }
-        ensures gathered { IfOk result (λ gathered. (out : List ℕ) → AreGathered (length entries.items) out holes.now image.now gathered) }
+        ensures gathered { IfOk result (λ gathered. (out : List ℕ) (fillers : Bool) → AreGathered (length entries.items) out holes.now fillers image.now gathered) }
         ensures entries { IfOk result (λ gathered. gathered.entries.items ≡ entries.items) }
     {
         let places = places_of(alloc, image, &entries)?;

@@ -11,12 +11,15 @@ ghost use Rattle.ados_salvage.specs.steps.Counting.{GivesMore, HasNone};
 ghost use Rattle.ados_salvage.specs.steps.Giving.{AreHolesMarked, IsGiving, IsOpen};
 
 use crate::known::{Known, data_needed, is_hole, is_own_data};
+use crate::links::Links;
+use crate::numbered::{Kept, give_numbered};
+use crate::pointer_blocks::{Wanted, give_unlinked};
 use adf_block::layout::{
     BLOCK_BYTES, BOOT_BLOCKS, FILE_SIZE, FILE_TYPE, FIRST_PAGE, FIRST_POINTER, HEADER_TYPE,
     LIST_TYPE, NEXT_DATA, NEXT_EXTENSION, OFS_DATA_BYTE, OWN_KEY, PARENT, POINTER_COUNT,
     PRIMARY_TYPE, ROOT_TYPE, SECONDARY_TYPE, TABLE_LONGS,
 };
-use adf_block::{Format, Image};
+use adf_block::{Format, Image, page_count};
 use std::alloc::{AllocError, Global};
 
 /// Bytes in a block.
@@ -25,7 +28,7 @@ pub(crate) const BLOCK: usize = BLOCK_BYTES as usize;
 /// The most bytes of all files that are not whole together, as a multiple of the image's bytes.
 const SHARE: usize = 4;
 
-/// The most bitmap blocks that the root names.
+/// The longs of the root that can name bitmap blocks.
 const PAGES: u32 = 25;
 
 /// A block given to a file that is not whole.
@@ -46,6 +49,8 @@ pub(crate) struct Giving {
     /// For each block, whether it was passed as an extension block. Only one file passes it.
     pub(crate) passed: Vec<bool>,
     pub(crate) pieces: Vec<Piece>,
+    /// The extension blocks with right checksums.
+    pub(crate) links: Links,
     /// How many bytes further such files may have.
     pub(crate) left: usize,
 }
@@ -66,6 +71,13 @@ struct Way {
     before: Option<u32>,
 }
 
+impl Way {
+    /// Whether nothing names the next data block.
+    fn is_lost(&self, image: &Image) -> bool {
+        self.holder.is_none() && (self.before.is_none() || image.format() == Format::Ffs)
+    }
+}
+
 impl Giving {
     /// Nothing is given. The root, its bitmap blocks and the holes are given to no file.
     pub(crate) fn new(alloc: Global, image: &Image, holes: &[bool]) -> Result<Giving, AllocError>
@@ -81,12 +93,15 @@ impl Giving {
             given,
             passed: vec![in alloc; false; count]?,
             pieces: Vec::new(alloc),
+            links: Links::new(alloc, image)?,
             left: image.as_bytes().len().saturating_mul(SHARE),
         })
     }
 
     /// Gives a file that is not whole, whose entry has this position, its data blocks that were not given before. It has at
-    /// most as many as its size needs, and as the image has. A wrong checksum of one is no reason against it.
+    /// most as many as its size needs, and as the image has. A wrong checksum of one is no reason against it, if a pointer or a link
+    /// names it. Where these give nothing, it is given what its FFS extension blocks name to which no link leads, and OFS data blocks
+    /// with right checksums by their own numbers.
     pub(crate) fn give(
         &mut self,
         known: &Known,
@@ -104,14 +119,13 @@ impl Giving {
         let room = BLOCK - data_start(image);
         let size = (image.long(file, FILE_SIZE) as usize).min(image.blocks() as usize * room);
         let needed = data_needed(image, file).min(image.blocks());
-        let mut there = 0;
-        let mut end = 0;
+        let mut kept = Kept::none(known, file);
         let mut way = Way {
             holder: Some(file),
             before: Some(file),
         };
         for i in 0..needed {
-            if way.holder.is_none() && way.before.is_none() {
+            if way.is_lost(image) {
                 break;
             }
             let found = self.block_at(image, file, i, way);
@@ -121,17 +135,25 @@ impl Giving {
                     at: i,
                     block,
                 })?;
-                there += 1;
-                end = size.min((i as usize + 1) * room);
+                kept = kept.with(i);
+            } else {
+                kept = give_numbered(known, file, place, kept, i + 1, self)?;
             }
             way.before = found;
             if i % TABLE_LONGS == TABLE_LONGS - 1 {
                 way.holder = self.next_holder(known, file, way.holder);
             }
         }
+        let wanted = Wanted {
+            file,
+            place,
+            needed,
+        };
+        let more = give_unlinked(known, wanted, kept, self)?;
+        let all = give_numbered(known, file, place, more, needed, self)?;
         Ok(Remains {
-            missing: needed - there,
-            end,
+            missing: needed - all.there,
+            end: size.min(all.last as usize * room),
         })
     }
 
@@ -283,7 +305,7 @@ fn one_if(is: bool) -> u32
     if is { 1 } else { 0 }
 }
 
-/// Marks the root, and the bitmap blocks that it names if it has the type of a root.
+/// Marks the root, and the bitmap blocks that it names if it has the type of a root: as many as the volume needs.
 fn mark_volume(image: &Image, given: &mut [bool])
     requires { length given.old ≡ block_count image.now }
     ensures { length given.new ≡ length given.old }
@@ -296,7 +318,7 @@ fn mark_volume(image: &Image, given: &mut [bool])
     {
         return;
     }
-    for page in 0..PAGES {
+    for page in 0..page_count(image.blocks()).min(PAGES) {
         let block = image.long(root, FIRST_PAGE + page) as usize;
         if block < given.len() {
             given[block] = true;

@@ -22,7 +22,7 @@ pub(crate) fn entry_of(
     state: State,
 ) -> Salvaged
     requires { LooksLikeHeader image.now block }
-    ensures told { (out : List ℕ) (holes : List Bool) → IsHeader out image.now block → HasState out holes image.now block state → IsSalvaged out holes image.now result }
+    ensures told { (out : List ℕ) (holes : List Bool) (fillers : Bool) → IsHeader out image.now block → HasState out holes fillers image.now block state → IsSalvaged out holes fillers image.now result }
     ensures header { result.header ≡ block }
     ensures state { result.state ≡ state }
     ensures found { result.found ≡ standing.found }

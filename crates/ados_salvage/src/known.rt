@@ -13,6 +13,7 @@ mod entries;
 mod holders;
 mod holes;
 mod intact;
+mod numbered;
 mod unreached;
 mod whole;
 
@@ -27,6 +28,7 @@ mod trust;
 // All that is known of an image.
 mod image_known;
 
+pub(crate) use claims::Claim;
 pub use data::is_own_data;
 pub use deleted::{Deleted, DeletedEntries, Recovery, deleted_entries};
 pub use entries::reached_entries;
@@ -36,5 +38,6 @@ pub use holes::is_hole;
 pub use image_known::Known;
 pub use laws::headers_by_census;
 pub use left_out::{LeftOut, faultless_deleted};
+pub(crate) use numbered::{Part, is_loose_data};
 pub use trust::{is_faultless, is_used};
 pub use whole::is_whole;

@@ -18,13 +18,14 @@ use ados_volume::{Below, Volume, entries_below};
 use std::alloc::{AllocError, Global};
 
 /// All entries of a volume with these holes, in its order, with whole files; and if its bitmap is trusted, behind them the sound
-/// headers among its lost blocks, and its deleted entries.
+/// headers among its lost blocks, and its deleted entries. If a list of unread blocks was given, fillers count among the lost blocks.
 pub(crate) fn volume_entries(
     alloc: Global,
     volume: Volume,
     holes: Vec<bool>,
+    listed: bool,
 ) -> Result<Salvage, AllocError>
-    ensures saves { (given : List ℕ) → Accepts given volume.was_validated volume.image → IfOk result (SavesTree given) }
+    ensures saves { (given : List ℕ) → Accepts given volume.was_validated volume.image → IfOk result (SavesTree listed given) }
     ensures holes { IfOk result (λ saved. saved.holes ≡ holes.items) }
 {
     let (deleted, trusted) = deleted_in(alloc, &volume)?;
@@ -38,6 +39,7 @@ pub(crate) fn volume_entries(
         deleted,
         pieces: Vec::new(alloc),
         holes,
+        fillers: listed,
     };
     if !trusted {
         return Ok(tree);

@@ -1,5 +1,5 @@
 //! Files whose header is gone, from the OFS data blocks that name it, or from the FFS extension blocks that do.
-ghost use Rattle.std.specs.Prelude.{◌≡◌, ◌<◌, ◌≤◌, ◌+◌, ℕ, IfOk, IfSome, IsTrue, MatchOption, OnOk, length, ⊤};
+ghost use Rattle.std.specs.Prelude.{◌≡◌, ◌<◌, ◌≤◌, ◌+◌, ℕ, IfOk, IfSome, MatchOption, OnOk, length, ⊤};
 ghost use Rattle.adf_block.specs.Image.{block_count};
 ghost use Rattle.ados_salvage.specs.Known.{AreKnown};
 ghost use Rattle.ados_salvage.specs.Loose.{IsLeft, IsLooseData};
@@ -11,24 +11,12 @@ ghost use Rattle.ados_salvage.specs.steps.Settling.{AreSettled};
 use crate::extensions::{give_listed, loose_extensions};
 use crate::gathered::Gathered;
 use crate::giving::{Giving, Piece, Remains};
-use crate::known::{Known, is_own_data, is_used};
+use crate::known::{Known, Part, is_loose_data, is_own_data, is_used};
 use crate::salvaged::{HeaderState, State};
 use crate::state::damaged;
-use adf_block::layout::{
-    BOOT_BLOCKS, DATA_TYPE, HELD, NEXT_DATA, OFS_ROOM, OWN_KEY, PRIMARY_TYPE, SEQUENCE,
-};
+use adf_block::layout::{HELD, NEXT_DATA, OFS_ROOM};
 use adf_block::{Format, Image};
 use std::alloc::AllocError;
-
-/// A block of a file whose header is not told: in OFS a data block, in FFS an extension block.
-#[derive(Clone, Copy, PartialEq, Eq, PartialOrd, Ord)]
-pub(crate) struct Part {
-    /// The block number of the header.
-    pub(crate) header: u32,
-    /// Which of the file's data blocks or extension blocks it is, from 1.
-    pub(crate) number: u32,
-    pub(crate) block: u32,
-}
 
 /// Adds a file for each header that is not told and that OFS data blocks or FFS extension blocks with right checksums name: in
 /// place of the lost entry with that block, if there is one, and else as a recovered one. There is none if a bitmap that can be
@@ -37,32 +25,22 @@ pub(crate) fn add_loose(known: &Known, gathered: &mut Gathered) -> Result<(), Al
     requires { AreSettled known.now 0 gathered.old }
     ensures { OnOk result ((next : ℕ) × AreSettled known.now next gathered.new) }
 {
-    let parts = match known.image.format() {
-        Format::Ofs => loose_parts(known)?,
-        Format::Ffs => loose_extensions(known)?,
-    };
-    replace_lost(known, &parts, gathered)?;
-    add_found(known, &parts, gathered)
-}
-
-/// The OFS data blocks with right checksums whose headers are not told, by header, number and block.
-fn loose_parts(known: &Known) -> Result<Vec<Part>, AllocError>
-    requires { AreKnown known.now }
-{
-    let image = &known.image;
-    let mut parts = Vec::new(known.alloc);
-    for block in BOOT_BLOCKS..image.blocks() {
-        let (header, number) = (image.long(block, OWN_KEY), image.long(block, SEQUENCE));
-        if number > 0 && is_loose(image, header, block) && !known.is_header(header) {
-            parts.push(Part {
-                header,
-                number,
-                block,
-            })?;
+    match known.image.format() {
+        Format::Ofs => add_files(known, &known.numbered, gathered),
+        Format::Ffs => {
+            let parts = loose_extensions(known, &gathered.giving.links)?;
+            add_files(known, &parts, gathered)
         }
     }
-    parts.sort_unstable();
-    Ok(parts)
+}
+
+/// Adds the files that these parts name.
+fn add_files(known: &Known, parts: &[Part], gathered: &mut Gathered) -> Result<(), AllocError>
+    requires { AreSettled known.now 0 gathered.old }
+    ensures { OnOk result ((next : ℕ) × AreSettled known.now next gathered.new) }
+{
+    replace_lost(known, parts, gathered)?;
+    add_found(known, parts, gathered)
 }
 
 /// Those that name a header; none if they are all deleted.
@@ -79,18 +57,6 @@ fn naming<'a>(known: &Known, parts: &'a [Part], header: u32) -> &'a [Part]
         return &[];
     }
     parts
-}
-
-/// Whether a block is an OFS data block with a right checksum that names this header.
-fn is_loose(image: &Image, header: u32, block: u32) -> bool
-    ensures { IsTrue result → IsLooseData image.now header block }
-{
-    image.format() == Format::Ofs
-        && block >= BOOT_BLOCKS
-        && block < image.blocks()
-        && image.long(block, PRIMARY_TYPE) == DATA_TYPE
-        && image.long(block, OWN_KEY) == header
-        && image.sum(block) == 0
 }
 
 /// Gives the lost entries the data blocks of the parts that name them.
@@ -238,7 +204,7 @@ fn give_data(
     for part in parts {
         let at = part.number.saturating_sub(1);
         if !last.is_some_and(|last| last.number == part.number)
-            && is_loose(image, header, part.block)
+            && is_loose_data(image, header, part.block)
             && is_own_data(image, header, at, part.block)
             && giving.is_open(part.block)
         {

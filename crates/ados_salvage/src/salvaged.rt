@@ -58,7 +58,7 @@ pub enum State {
 /// What the header of a file is like that is not whole.
 #[derive(Clone, Copy, PartialEq, Eq)]
 pub enum HeaderState {
-    /// It is sound. Then another of its blocks is not, or is named by another file too.
+    /// It is sound. Then another of its blocks is not, or is named by another file too, or holds a known filler.
     Sound,
     /// It has a wrong checksum or too long a comment.
     Doubtful,

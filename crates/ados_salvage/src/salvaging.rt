@@ -9,12 +9,13 @@ ghost use Rattle.ados_salvage.specs.Salvaged.{AreOfTree, Salvages, SavesBeside, 
 use crate::chains::add_reached;
 use crate::gathered::Gathered;
 use crate::giving::Giving;
-use crate::holes::{emptied, reaches_hole};
+use crate::holes::{emptied, leads_to_unread};
 use crate::kind::with_kind;
 use crate::known::Known;
 use crate::listing::volume_entries;
 use crate::loose::add_loose;
 use crate::lost::add_lost;
+use crate::mended::put_right;
 use crate::saved::Salvage;
 use crate::unreached::add_unreached;
 use adf_block::Image;
@@ -28,41 +29,55 @@ use std::alloc::{AllocError, Global};
 /// name no such header make a file, in place of the lost entry with that header, or else behind all others; and so do, in FFS,
 /// extension blocks that name no such header. Deleted entries are
 /// left out, if the bitmap can be trusted: they claim no blocks, so a file that has such blocks now can be whole. It is read as the
-/// kind that its blocks say, whatever its boot block says (`with_kind`). A block is given to one file at most of
-/// those that are not whole, to the first in this order, and all of these together have at most four times the bytes of the
-/// image.
+/// kind that its blocks say, whatever its boot block says (`with_kind`). A lost entry that would be a header with a right checksum if
+/// one of its types or its own number was another is read with that value, and its checksum stays as wrong as it is: so such a header
+/// is doubtful, and never sound (`put_right`). A file with a data block that holds a known filler is not whole. A block is given to
+/// one file at most of those that are not whole, to the first in this order, and all of these together have at most four times the
+/// bytes of the image.
 ///
 /// The bytes of files are made when they are asked for.
 pub fn salvage(alloc: Global, image: Image) -> Result<Salvage, AllocError>
     ensures salvages { IfOk result (Salvages image) }
     ensures tree { IfOk result (λ saved. (t : Tree) → Stands image t → AreOfTree t saved) }
 {
-    salvage_of(alloc, image, Vec::new(alloc))
+    salvage_of(alloc, image, Vec::new(alloc), false)
 }
 
 /// The same of an image with holes, blocks that nobody read: whatever stands in their place is not believed. A file that a hole
 /// belongs to is not whole, and the hole is a missing block of it. The image counts as refused if the root leads to a hole.
 ///
-/// `holes` says for each block whether it is one. A block without a mark is none.
-pub fn salvage_beside(alloc: Global, image: Image, holes: Vec<bool>) -> Result<Salvage, AllocError>
-    ensures { IfOk result (SalvagesBeside holes.items image) }
+/// `holes` says for each block whether it is one. A block without a mark is none. `listed` says whether they are from a list of unread
+/// blocks. If so, the image counts as refused too if a data block to which the root leads holds a known filler, since a copying
+/// program may have written it in place of what it could not read.
+pub fn salvage_beside(
+    alloc: Global,
+    image: Image,
+    holes: Vec<bool>,
+    listed: bool,
+) -> Result<Salvage, AllocError>
+    ensures { IfOk result (SalvagesBeside holes.items listed image) }
 {
     let image = emptied(image, &holes);
-    let reaches = reaches_hole(alloc, &image, &holes)?;
+    let reaches = leads_to_unread(alloc, &image, &holes, listed)?;
     if reaches {
         let image = with_kind(alloc, image)?;
         return told_headers(alloc, image, holes);
     }
-    salvage_of(alloc, image, holes)
+    salvage_of(alloc, image, holes, listed)
 }
 
 /// Everything in an image that can be told. The root leads to no hole, if the image is accepted.
-fn salvage_of(alloc: Global, image: Image, holes: Vec<bool>) -> Result<Salvage, AllocError>
-    ensures salvages { IfOk result (SavesBeside holes.items image) }
+fn salvage_of(
+    alloc: Global,
+    image: Image,
+    holes: Vec<bool>,
+    listed: bool,
+) -> Result<Salvage, AllocError>
+    ensures salvages { IfOk result (SavesBeside holes.items listed image) }
     ensures tree { IfOk result (λ saved. (t : Tree) → Stands image t → AreOfTree t saved) }
 {
     match check(alloc, image) {
-        Ok(volume) => volume_entries(alloc, volume, holes),
+        Ok(volume) => volume_entries(alloc, volume, holes, listed),
         Err(rejected) => match rejected.fault.kind {
             FaultKind::NoMemory => Err(AllocError),
             _ => {
@@ -79,7 +94,8 @@ fn told_headers(alloc: Global, image: Image, holes: Vec<bool>) -> Result<Salvage
     ensures saves { (given : List ℕ) → IsReadAs given image → IfOk result (SavesRest given) }
     ensures holes { IfOk result (λ saved. saved.holes ≡ holes.items) }
 {
-    let known = Known::without_deleted(alloc, image, holes)?;
+    let given = Known::without_deleted(alloc, image, holes)?;
+    let known = put_right(given)?;
     let mut gathered = Gathered::new(alloc, &known.image, &known.holes)?;
     add_reached(&known, &mut gathered)?;
     add_unreached(&known, &mut gathered)?;
@@ -96,6 +112,7 @@ fn told_headers(alloc: Global, image: Image, holes: Vec<bool>) -> Result<Salvage
         trusted,
         left_out,
         holes,
+        fillers,
         ..
     } = known;
     let deleted = left_out.into_headers();
@@ -107,5 +124,6 @@ fn told_headers(alloc: Global, image: Image, holes: Vec<bool>) -> Result<Salvage
         deleted,
         pieces,
         holes,
+        fillers,
     })
 }

@@ -18,7 +18,8 @@ use std::marker::Model;
 /// What can be trusted in an image: its entries, and the bytes of their files when they are asked for.
 ///
 /// Contracts see whether the image was accepted, the image as it was read, whether its bitmap is trusted, the entries, the
-/// headers of the deleted entries, which are left out, the blocks given to files that are not whole, and the marks of the holes.
+/// headers of the deleted entries, which are left out, the blocks given to files that are not whole, the marks of the holes, and
+/// whether fillers count.
 #[derive(Drop)]
 pub struct Salvage {
     pub(crate) accepted: bool,
@@ -29,6 +30,8 @@ pub struct Salvage {
     pub(crate) pieces: Vec<Piece>,
     /// For each block, whether it is a hole. A block without a mark is none.
     pub(crate) holes: Vec<bool>,
+    /// Whether a known filler in a data block counts against its file.
+    pub(crate) fillers: bool,
 }
 
 impl Model for Salvage {
@@ -37,7 +40,7 @@ impl Model for Salvage {
 
     ghost Value = { Saved };
 
-    ghost view = { λ s. record { accepted = s.accepted; image = s.image; trusted = s.trusted; entries = s.entries.items; deleted = s.deleted.items; given = s.pieces.items; holes = s.holes.items } };
+    ghost view = { λ s. record { accepted = s.accepted; image = s.image; trusted = s.trusted; entries = s.entries.items; deleted = s.deleted.items; given = s.pieces.items; holes = s.holes.items; fillers = s.fillers } };
 
     ghost invariant = { λ s. IsKept s.image s.trusted s.entries.items s.pieces.items };
 }
@@ -77,6 +80,14 @@ impl Salvage {
         ensures { result.now ≡ self.now.holes }
     {
         self.holes.as_slice()
+    }
+
+    /// Whether a known filler in a data block counts against its file: in a refused image, or where a list of unread blocks was given.
+    /// A file that is not whole for it keeps its bytes.
+    pub fn counts_fillers(&self) -> bool
+        ensures { result ≡ self.now.fillers }
+    {
+        self.fillers
     }
 
     /// The entries, each header once, a directory before its entries. Lost entries come last, and behind them only recovered files

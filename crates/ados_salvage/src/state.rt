@@ -24,7 +24,7 @@ pub(crate) fn state_of(
     requires header { IsHeader known.now.left_out known.now.image block }
     requires known { AreKnown known.now }
     requires giving { IsGiving known.now.holes.items known.now.image giving.old }
-    ensures state { IfOk result (HasState known.now.left_out known.now.holes.items known.now.image block) }
+    ensures state { IfOk result (HasState known.now.left_out known.now.holes.items known.now.fillers known.now.image block) }
     ensures giving { OnOk result (IsGiving known.now.holes.items known.now.image giving.new) }
     ensures left { IfOk result (λ state. broken_length state + giving.new.left ≡ giving.old.left) }
     ensures more { OnOk result (GivesMore known.now.image block place giving.old.pieces.items giving.new.pieces.items) }

@@ -1,5 +1,5 @@
 //! The deleted entries of an image, with the directories that they were in.
-ghost use Rattle.std.specs.Prelude.{◌≡◌, [], ℕ, List, length, IfOk, IsSome, OnOk};
+ghost use Rattle.std.specs.Prelude.{◌≡◌, [], ℕ, List, false, length, IfOk, IsSome, OnOk};
 ghost use Rattle.adf_block.specs.Image.{block_count};
 ghost use Rattle.ados_salvage.specs.Deleted.{IsTrustedBitmap, ListsDeleted};
 ghost use Rattle.ados_salvage.specs.Sound.{IsSoundHeader};
@@ -72,7 +72,7 @@ fn undelete_read(alloc: Global, image: Image) -> Result<UndeletedEntries, AllocE
 fn found(alloc: Global, image: Image, deleted: Vec<Deleted>, gathered: Gathered) -> UndeletedEntries
     requires trusted { IsTrustedBitmap image }
     requires deleted { ListsDeleted image deleted.items }
-    requires gathered { AreGathered 0 [] [] image gathered }
+    requires gathered { AreGathered 0 [] [] false image gathered }
     requires each { HasEach gathered.places.items deleted.items }
     ensures { TellsUndeleted image result }
 {
@@ -92,6 +92,7 @@ fn found(alloc: Global, image: Image, deleted: Vec<Deleted>, gathered: Gathered)
             deleted: Vec::new(alloc),
             pieces,
             holes: Vec::new(alloc),
+            fillers: false,
         },
         deleted,
         places,

@@ -1,5 +1,5 @@
 -- The items of entries, while they are added.
-use Rattle.std.specs.Prelude.{◌≡◌, ◌≢◌, ℕ, ◌≤◌, Bool, true, false, List, ◌++◌, codes, decimal, length, All, AllPairs, Option, Some, None}
+use Rattle.std.specs.Prelude.{◌≡◌, ◌≢◌, ℕ, ◌≤◌, true, false, List, ◌++◌, codes, decimal, length, All, AllPairs, Option, Some, None}
 use Rattle.std.specs.BTreeSet.{contains_text}
 use Rattle.adf_host.specs.Notes.{note_of}
 use Rattle.adf_host.specs.declared.trees.items.HostItem.{HostItem}

@@ -10,7 +10,10 @@ use Rattle.ados_salvage.specs.Salvaged.{Saved}
 use Rattle.ados_salvage.specs.Sound.{Names}
 use Rattle.ados_salvage.specs.Marks.{mark_at}
 use Rattle.ados_census.specs.steps.Marks.{IsMarked}
-use Rattle.ados_salvage.specs.Account.{IsAccounted, IsNextExtension}
+use Rattle.std.specs.BTreeSet.{BTreeSet, contains}
+use Rattle.std.specs.Ordering.{nat_cmp}
+use Rattle.ados_salvage.specs.Account.{HasExtensionBlock, IsAccounted, IsDamagedFile, IsNextExtension}
+use Rattle.ados_salvage.specs.Loose.{IsLooseExtension}
 
 -- the reached blocks of an image are needed, unless its bitmap is trusted
 abbrev pub needed : Bool → List ℕ → Option (List ℕ)
@@ -59,3 +62,23 @@ pub record AreClosed (image : List ℕ) (marks : List Bool) : Type 0 where
 pub record IsNewAfter (image : List ℕ) (marks : List Bool) (file holder block : ℕ) : Type 0 where
   pub next : IsNextExtension image file holder block
   pub free : mark_at marks block ≡ false
+
+-- an extension block of an entry that is a file and not whole: by links, or by itself
+abbrev pub IsLinkedOf : List ℕ → Salvaged → ℕ → Type 0
+IsLinkedOf image entry block = IsDamagedFile entry.state × HasExtensionBlock image entry.header block
+
+abbrev pub IsLooseOf : List ℕ → Salvaged → ℕ → Type 0
+IsLooseOf image entry block = IsDamagedFile entry.state × IsLooseExtension image entry.header block
+
+-- the header of an entry that is a file and not whole
+abbrev pub IsDamagedHeader : Salvaged → ℕ → Type 0
+IsDamagedHeader entry header = IsDamagedFile entry.state × (header ≡ entry.header)
+
+-- the set has exactly the numbers with a property
+pub record HasExactly (P : ℕ → Type 0) (numbers : BTreeSet ℕ) : Type 0 where
+  pub only : (n : ℕ) → contains nat_cmp numbers n ≡ true → P n
+  pub all : (n : ℕ) → P n → contains nat_cmp numbers n ≡ true
+
+-- an extension block that names one of these headers, by itself
+abbrev pub IsLooseOfAny : List ℕ → BTreeSet ℕ → ℕ → Type 0
+IsLooseOfAny image headers block = (header : ℕ) × (contains nat_cmp headers header ≡ true) × IsLooseExtension image header block

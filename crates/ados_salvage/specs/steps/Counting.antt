@@ -2,6 +2,8 @@
 use Rattle.std.specs.Prelude.{◌≡◌, ◌≢◌, ℕ, ◌+◌, ◌<◌, ◌≤◌, List, ◌++◌, length, All}
 use Rattle.ados_salvage.specs.Doubtful.{IsHeader}
 use Rattle.ados_salvage.specs.declared.giving.Piece.{Piece}
+use Rattle.ados_salvage.specs.declared.numbered.Kept.{Kept}
+use Rattle.ados_salvage.specs.declared.pointer_blocks.Wanted.{Wanted}
 use Rattle.ados_salvage.specs.declared.salvaged.Salvaged.{Salvaged}
 use Rattle.ados_salvage.specs.Due.{IsDue}
 use Rattle.ados_salvage.specs.Missing.{TellsMissing, missing_below}
@@ -23,6 +25,12 @@ pub record GivesFirst (image : List ℕ) (file place first there : ℕ) (old new
   pub gives : GivesMore image file place old new
   pub below : HasNone old place → All (λ piece. piece.place ≡ place → piece.at < first) new
   pub counted : HasNone old place → there + missing_below new place first ≡ first
+
+-- a file that had some of its first data blocks was given more, none of them behind those that it needs
+pub record TakesMore (image : List ℕ) (wanted : Wanted) (earlier kept : Kept) (mid new : List Piece) : Type 0 where
+  pub few : kept.there ≤ kept.next
+  pub within : earlier.next ≤ wanted.needed → kept.next ≤ wanted.needed
+  pub first : (old : List Piece) → GivesFirst image wanted.file wanted.place earlier.next earlier.there old mid → GivesFirst image wanted.file wanted.place kept.next kept.there old new
 
 -- blocks were given only to these entries, and each is due to its entry. Behind as many as were told before, the state of each with a header that is told says how many
 -- of its blocks are missing

@@ -22,3 +22,4 @@ pub record AddsLost (old new : Saved) : Type 0 where
   pub trusted : new.trusted ≡ old.trusted
   pub deleted : new.deleted ≡ old.deleted
   pub holes : new.holes ≡ old.holes
+  pub fillers : new.fillers ≡ old.fillers

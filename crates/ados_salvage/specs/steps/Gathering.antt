@@ -40,9 +40,9 @@ IsNew known places block = IsHeader known.left_out known.image block × (place_a
 
 -- the entries found so far, behind as many as were told before; the index of each header is right, and the blocks given and the bytes left
 -- fit the broken files, which tell how many of their blocks are missing
-pub record AreGathered (before : ℕ) (out : List ℕ) (holes : List Bool) (image : List ℕ) (gathered : Gathered) : Type 0 where
+pub record AreGathered (before : ℕ) (out : List ℕ) (holes : List Bool) (fillers : Bool) (image : List ℕ) (gathered : Gathered) : Type 0 where
   pub behind : before ≤ length gathered.entries.items
-  pub told : All (IsTold out holes image) (drop before gathered.entries.items)
+  pub told : All (IsTold out holes fillers image) (drop before gathered.entries.items)
   pub size : length gathered.places.items ≡ block_count image
   pub placed : (i : ℕ) → i < length (headers_of gathered.entries.items)
       → place_at gathered.places.items (slice_index (headers_of gathered.entries.items) i) ≡ Some i
@@ -54,7 +54,7 @@ pub record AreGathered (before : ℕ) (out : List ℕ) (holes : List Bool) (imag
 -- the entries gathered so far of an image, by what is known of it
 pub record AreGatheredBy (known : Known) (gathered : Gathered) : Type 0 where
   pub sure : AreKnown known
-  pub so_far : AreGathered known.before known.left_out known.holes.items known.image gathered
+  pub so_far : AreGathered known.before known.left_out known.holes.items known.fillers known.image gathered
 
 -- headers found before are still found
 abbrev pub KeepsMet : List (Option ℕ) → List (Option ℕ) → Type 0
@@ -67,13 +67,13 @@ GathersMore known old new = AreGatheredBy known new × KeepsMet old.places.items
 -- one more entry, that of a header, which is found or not
 pub record AddsOne (known : Known) (is_found : Bool) (old new : Gathered) : Type 0 where
   pub entry : Salvaged
-  pub salvaged : IsSalvaged known.left_out known.holes.items known.image entry
+  pub salvaged : IsSalvaged known.left_out known.holes.items known.fillers known.image entry
   pub as_found : entry.found ≡ is_found
   pub added : new.entries.items ≡ old.entries.items ++ entry ∷ []
 
 -- a found entry with the fields of its header
 abbrev pub IsFoundEntry : Known → Salvaged → Type 0
-IsFoundEntry known entry = (entry.found ≡ true) × IsSalvaged known.left_out known.holes.items known.image entry
+IsFoundEntry known entry = (entry.found ≡ true) × IsSalvaged known.left_out known.holes.items known.fillers known.image entry
 
 -- more entries, all of them found
 pub record AddsFound (known : Known) (old new : Gathered) : Type 0 where

@@ -24,7 +24,7 @@ ArePlaced places next headers = (block : ℕ) → Contains headers block → IsS
 -- the entries so far, the blocks given and the bytes left; each header is below a number, or was gathered
 pub record AreSettled (known : Known) (next : ℕ) (gathered : Gathered) : Type 0 where
   pub sure : AreKnown known
-  pub salvaged : AreSalvaged known.left_out known.holes.items known.image gathered.entries.items
+  pub salvaged : AreSalvaged known.left_out known.holes.items known.fillers known.image gathered.entries.items
   pub placed : ArePlaced gathered.places.items next (headers_of gathered.entries.items)
   pub giving : IsGiving known.holes.items known.image gathered.giving
   pub bounded : broken_total gathered.entries.items + gathered.giving.left ≤ 4 * length known.image

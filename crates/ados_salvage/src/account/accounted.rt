@@ -22,7 +22,7 @@ pub(crate) fn accounted_marks(alloc: Global, salvage: &Salvage) -> Result<Vec<bo
 {
     let image = salvage.image();
     let mut marks = no_marks(alloc, image)?;
-    mark_extensions(image, salvage.entries(), &mut marks);
+    mark_extensions(alloc, image, salvage.entries(), &mut marks)?;
     mark_entries(image, salvage.entries(), &mut marks);
     mark_pieces(salvage.pieces(), &mut marks);
     mark_volume(image, &mut marks);
@@ -38,7 +38,7 @@ pub(crate) fn no_marks(alloc: Global, image: &Image) -> Result<Vec<bool>, AllocE
 }
 
 /// Marks a block, if there is a mark for it.
-fn mark(marks: &mut Vec<bool>, block: u32)
+pub(crate) fn mark(marks: &mut Vec<bool>, block: u32)
     ensures { Adds (λ b. b ≡ block) marks.old.items marks.new.items }
 {
     if (block as usize) < marks.len() {

@@ -144,7 +144,7 @@ fn damaged_extensions(alloc: Global, salvage: &Salvage) -> Result<Vec<u32>, Allo
 {
     let image = salvage.image();
     let mut marks = no_marks(alloc, image)?;
-    mark_extensions(image, salvage.entries(), &mut marks);
+    mark_extensions(alloc, image, salvage.entries(), &mut marks)?;
     marked_blocks(alloc, image, &marks)
 }
 

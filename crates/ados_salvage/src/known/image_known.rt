@@ -1,5 +1,5 @@
 //! An image, and what is known of its blocks before its entries are gathered.
-ghost use Rattle.std.specs.Prelude.{◌≡◌, ◌<◌, ◌↔◌, All, IfOk, IsTrue, MatchBool};
+ghost use Rattle.std.specs.Prelude.{◌≡◌, ◌<◌, ◌↔◌, false, true, All, IfOk, IsTrue, MatchBool};
 ghost use Rattle.adf_block.specs.Image.{block_count};
 ghost use Rattle.ados_salvage.specs.Deleted.{AreDeleted, IsTrustedBitmap, TellsTrust};
 ghost use Rattle.ados_salvage.specs.Doubtful.{IsHeader, NamesEntries};
@@ -12,6 +12,7 @@ use crate::known::header::{is_root, sound_headers};
 use crate::known::headers::headers;
 use crate::known::left_out::{LeftOut, left_out_of};
 use crate::known::lost::hidden_headers;
+use crate::known::numbered::{Part, numbered_blocks};
 use crate::known::unreached::reached_claims;
 use adf_block::Image;
 use std::alloc::{AllocError, Global};
@@ -29,6 +30,10 @@ pub struct Known {
     pub before: usize,
     /// For each block, whether it is a hole: nobody read it. A block without a mark is none.
     pub holes: Vec<bool>,
+    /// Whether a known filler in a data block counts against its file.
+    pub fillers: bool,
+    /// The OFS data blocks with right checksums, by header, number and block.
+    pub(crate) numbered: Vec<Part>,
     /// For each block, whether it is a header that is told, sound or doubtful.
     pub(crate) headers: Vec<bool>,
     /// For each block, the sound files that claim it.
@@ -38,7 +43,7 @@ pub struct Known {
 }
 
 impl Known {
-    /// What is known of the blocks of an image with these holes, where its deleted entries are left out.
+    /// What is known of the blocks of an image with these holes, where its deleted entries are left out, and fillers count.
     ///
     /// Time and memory grow about linearly with the size of the image.
     pub fn without_deleted(
@@ -49,37 +54,44 @@ impl Known {
         ensures known { IfOk result AreKnown }
         ensures image { IfOk result (λ known. known.image ≡ image) }
         ensures holes { IfOk result (λ known. known.holes ≡ holes) }
+        ensures fillers { IfOk result (λ known. known.fillers ≡ true) }
         ensures left_out { IfOk result (λ known. AreDeleted image known.left_out) }
         ensures none { IfOk result (λ known. known.before ≡ 0) }
     {
         let sound = sound_headers(alloc, &image)?;
         let (left_out, trusted) = left_out_of(alloc, &image, &sound)?;
-        Known::of(alloc, image, holes, trusted, left_out, &sound)
+        let mut known = Known::of(alloc, image, holes, trusted, left_out, &sound)?;
+        known.fillers = true;
+        Ok(known)
     }
 
-    /// What is known of the blocks of an image with a trusted bitmap and these holes, where only its entries, of which so many are
-    /// told before, and the sound headers among its lost blocks are told.
+    /// What is known of the blocks of an image with a trusted bitmap and these holes, where fillers count or not, and only its
+    /// entries, of which so many are told before, and the sound headers among its lost blocks are told.
     pub fn with_lost(
         alloc: Global,
         image: Image,
         holes: Vec<bool>,
+        fillers: bool,
         before: usize,
     ) -> Result<Known, AllocError>
         requires trusted { IsTrustedBitmap image }
         ensures known { IfOk result AreKnown }
         ensures image { IfOk result (λ known. known.image ≡ image) }
         ensures holes { IfOk result (λ known. known.holes ≡ holes) }
+        ensures fillers { IfOk result (λ known. known.fillers ≡ fillers) }
         ensures hidden { IfOk result (λ known. AreHidden image known.left_out) }
         ensures before { IfOk result (λ known. known.before ≡ before) }
     {
         let sound = sound_headers(alloc, &image)?;
         let hidden = hidden_headers(alloc, &image, &sound)?;
         let mut known = Known::of(alloc, image, holes, true, hidden, &sound)?;
+        known.fillers = fillers;
         known.before = before;
         Ok(known)
     }
 
-    /// What is known of the blocks of an image with these holes, where some headers are left out. `sound` marks the sound headers.
+    /// What is known of the blocks of an image with these holes, where some headers are left out, and fillers do not count. `sound`
+    /// marks the sound headers.
     pub(crate) fn of(
         alloc: Global,
         image: Image,
@@ -94,12 +106,14 @@ impl Known {
         ensures known { IfOk result AreKnown }
         ensures image { IfOk result (λ known. known.image ≡ image) }
         ensures holes { IfOk result (λ known. known.holes ≡ holes) }
+        ensures fillers { IfOk result (λ known. known.fillers ≡ false) }
         ensures left_out { IfOk result (λ known. known.left_out ≡ left_out) }
         ensures none { IfOk result (λ known. known.before ≡ 0) }
     {
         let claims = claims(alloc, &image, &left_out, sound)?;
         let reached_claims = reached_claims(alloc, &image, &left_out, sound)?;
         let headers = headers(alloc, &image, &left_out, sound)?;
+        let numbered = numbered_blocks(alloc, &image)?;
         Ok(Known {
             alloc,
             image,
@@ -107,6 +121,8 @@ impl Known {
             left_out,
             before: 0,
             holes,
+            fillers: false,
+            numbered,
             headers,
             claims,
             reached_claims,

@@ -1,5 +1,5 @@
 //! Whether the bitmap of an image can be trusted, and which entries it says are deleted.
-ghost use Rattle.std.specs.Prelude.{◌≡◌, ◌≢◌, ◌<◌, ◌↔◌, ℕ, false, All, Contains, IfOk, IfSome, IsTrue, MatchBool, MatchOption};
+ghost use Rattle.std.specs.Prelude.{◌≡◌, ◌≢◌, ◌<◌, ◌↔◌, ℕ, false, All, IfOk, IfSome, IsTrue, MatchBool, MatchOption};
 ghost use Rattle.adf_block.specs.Image.{block_count};
 ghost use Rattle.adf_block.specs.Whole.{IsImage};
 ghost use Rattle.ados_faults.specs.Listed.{ListsDoubts};

@@ -83,7 +83,7 @@ def why(entry: Salvaged) -> str:
     if entry.state == State.BROKEN:
         missing = f"{entry.missing:,} block{'s' * (entry.missing != 1)} missing"
         return f"broken: {missing}{', cut short' if entry.is_cut else ''}"
-    return "doubtful: a checksum or a field is wrong, or a block is in two files"
+    return "doubtful: a wrong checksum or field, a block in two files, or a filler"
 
 
 def free_path(volume: Volume, path: str) -> str:

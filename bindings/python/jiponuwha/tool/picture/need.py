@@ -43,7 +43,7 @@ _TEXTS = {
     Need.DOUBTFUL: (
         "Files are doubtful",
         "doubtful",
-        "No data block is missing, but a header or a block has a fault, or no directory leads to the file.",
+        "No data block is missing, but a header or a block has a fault, a block holds a filler, or no directory leads to the file.",
     ),
     Need.MISSIZED: (
         "Not the size of a disk",

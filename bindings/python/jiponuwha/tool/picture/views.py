@@ -63,7 +63,7 @@ class SavedRow:
 
 _MEANINGS = {
     "whole": "All blocks are there and sound.",
-    "doubtful": "No data block is missing, but the header or a block is damaged, or is used by another file too.",
+    "doubtful": "No data block is missing, but the header or a block is damaged, is used by another file too, or holds a filler.",
     "broken": "Data blocks are missing. They are read as zeros.",
     "lost": "A directory names it, and nothing else of it is left.",
 }

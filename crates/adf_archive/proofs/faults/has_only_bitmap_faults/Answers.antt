@@ -1,4 +1,4 @@
-use Rattle.std.proofs.Common.{All, List, subst}
+use Rattle.std.proofs.Common.{All, subst}
 use Rattle.adf_archive.proofs.Common.{IsOfMarks, VolumeFault}
 use Rattle.adf_archive.proofs.Shown.{only_marks}
 use Rattle.adf_archive.proofs.faults.has_only_bitmap_faults.Goals as goal

@@ -1,4 +1,4 @@
-use Rattle.std.proofs.Common.{◌≡◌, Bor, ℕ, List, [], ◌∷◌, ◌++◌, get_or, sym, ap, ◌∙◌, rules}
+use Rattle.std.proofs.Common.{Bor, ℕ, List, [], ◌∷◌, ◌++◌, get_or, sym, ap, ◌∙◌, rules}
 use Rattle.adf_archive.proofs.Searching.{all_of, one_more}
 use Rattle.adf_archive.proofs.finding.image_files.Goals as goal
 

@@ -1,4 +1,4 @@
-use Rattle.std.proofs.Common.{Bor, ℕ, List, []}
+use Rattle.std.proofs.Common.{[]}
 use Rattle.adf_archive.proofs.Searching.{adds_all, adds_name, adds_none}
 use Rattle.adf_archive.proofs.name_list.add_listed.Goals as goal
 

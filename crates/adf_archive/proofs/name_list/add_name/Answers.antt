@@ -1,6 +1,5 @@
 use Rattle.std.proofs.Common.{ℕ, List, [], ◌∷◌, subst}
 use Rattle.adf_archive.specs.steps.Adding.{AddsOwn}
-use Rattle.adf_archive.proofs.Common.{string_bytes}
 use Rattle.adf_archive.proofs.name_list.add_name.Goals as goal
 
 pub returns-then-is_hosts : goal.returns-then-is_hosts

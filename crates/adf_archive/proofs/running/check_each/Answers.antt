@@ -1,4 +1,4 @@
-use Rattle.std.proofs.Common.{◌≡◌, ◌+◌, ◌<◌, length, get_or, ℕ, List, [], map, ap, sym, subst, ◌∙◌, append-nil, arith}
+use Rattle.std.proofs.Common.{length, ℕ, List, [], map, ap, sym, subst, ◌∙◌, append-nil, arith}
 use Rattle.adf_archive.proofs.Common.{length-map, Appends, string_bytes, WritesFront, ImageReport, told_from, tallied}
 use Rattle.adf_archive.proofs.Chunks.{at_err, so_far_front, so_far_more, so_far_none}
 use Rattle.adf_archive.proofs.running.check_each.Goals as goal

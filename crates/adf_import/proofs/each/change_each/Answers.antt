@@ -1,4 +1,4 @@
-use Rattle.std.proofs.Common.{Bor, ℕ, List, Err, map, ap, ◌∙◌, subst, arith}
+use Rattle.std.proofs.Common.{ℕ, List, Err, map, ap, ◌∙◌, subst, arith}
 use Rattle.adf_import.proofs.Common.{Does, EndsInTurn}
 use Rattle.adf_import.specs.Turns.AreDone.{none}
 use Rattle.adf_import.specs.declared.words.Word.{Word}

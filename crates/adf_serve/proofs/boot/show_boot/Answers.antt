@@ -1,4 +1,4 @@
-use Rattle.std.proofs.Common.{ℕ, List, subst, sym}
+use Rattle.std.proofs.Common.{subst, sym}
 use Rattle.adf_serve.specs.Texts.{IsBootForm}
 use Rattle.adf_serve.specs.declared.fault.CommandFault.TheVariants.{Memory}
 use Rattle.adf_serve.proofs.Printing.{tells_no_image, tells_unlisted, told_text}

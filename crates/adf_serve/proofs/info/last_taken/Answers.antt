@@ -1,7 +1,7 @@
 use Rattle.std.proofs.Common.{◌≡◌, ◌-◌, length, ap, ◌∙◌, sym, subst}
 use Rattle.std.specs.List.{slice_get}
 use Rattle.std.proofs.Common.{Some}
-use Rattle.ados_port.specs.declared.step.{Outcome.Outcome, Outcome.TheVariants.Taken}
+use Rattle.ados_port.specs.declared.step.{Outcome.TheVariants.Taken}
 use Rattle.adf_serve.proofs.Asked.{last_of}
 use Rattle.adf_serve.proofs.info.last_taken.Goals as goal
 

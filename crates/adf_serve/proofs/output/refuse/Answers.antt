@@ -1,4 +1,4 @@
-use Rattle.std.proofs.Common.{◌≡◌, ℕ, List, Option, Some, Bool, Global, Vec, subst, sym}
+use Rattle.std.proofs.Common.{◌≡◌, ℕ, List, Some, Bool, Global, Vec, subst, sym}
 use Rattle.std.specs.Io.KnownBytes.{Appends}
 use Rattle.adf_io.specs.Prefix.{WritesFront}
 use Rattle.adf_serve.specs.Refusals.{told_line}

@@ -1,4 +1,4 @@
-use Rattle.std.proofs.Common.{ℕ, Bool, true, false, List, Option, None, Some, inr, subst}
+use Rattle.std.proofs.Common.{ℕ, Bool, true, false, List, Option, None, Some, inr, is_some, subst}
 use Rattle.adf_io.specs.Prefix.{Writes, WritesFrontOf}
 use Rattle.adf_rescue.specs.Rescue.{AreRescued, AreSomeRescued, IsRescue}
 use Rattle.adf_rescue.specs.declared.damaged.Rescue.{Rescue}
@@ -9,7 +9,7 @@ use Rattle.adf_serve.proofs.Printing.{less_asked}
 use Rattle.adf_serve.proofs.rescue.tell_rescue.Goals as goal
 
 -- what is told of a rescue is the report on its image
-module _ (job : SalvageJob) (holes : List Bool) (image : List ℕ) (rescue : Rescue) (are : AreHoles job image holes) (rescued : IsRescue holes image rescue) (all : Option Bool)
+module _ (job : SalvageJob) (holes : List Bool) (image : List ℕ) (rescue : Rescue) (are : AreHoles job image holes) (rescued : IsRescue holes (is_some job.bad) image rescue) (all : Option Bool)
     (mended : IsMendedFor job rescue.salvage all) where
   reported : (accepted : Bool) (text : List ℕ) → AreRescued job.json rescue accepted text → IsRescueText job all accepted text
   reported accepted text told = (holes, image, are, record { rescue = rescue; rescued = rescued; told = told }, mended)

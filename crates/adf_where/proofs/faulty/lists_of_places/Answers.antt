@@ -1,4 +1,4 @@
-use Rattle.adf_where.proofs.Common.{◌≡◌, ℕ, ◌+◌, List, Vec, Global, get_or, take, sym, subst, AllZip, AreAllPlaces, Place, get_or_default}
+use Rattle.adf_where.proofs.Common.{ℕ, ◌+◌, List, Vec, Global, get_or, take, sym, subst, AllZip, AreAllPlaces, Place, get_or_default}
 use Rattle.adf_where.proofs.Zipped.{zipped_more}
 use Rattle.adf_where.proofs.faulty.lists_of_places.Goals as goal
 

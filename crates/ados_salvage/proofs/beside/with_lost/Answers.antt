@@ -9,7 +9,7 @@ add_unreached-requires c =
     let tree = c.tree.inside.entries in
     let known = c.in_ok-known.known in
     gathered_tree known c.in_ok-gathered.gathered (length tree.items) c.in_ok-known.ensures.known (c.in_ok-known.ensures.before ∙ c.len.ensures ∙ tree.ok.0)
-    (subst (λ (holes : List Bool). AreGathered (length tree.items) known.left_out holes known.image c.in_ok-gathered.gathered) c.deref.ensures.value (c.in_ok-gathered.ensures.gathered known.left_out))
+    (subst (λ (holes : List Bool). AreGathered (length tree.items) known.left_out holes known.fillers known.image c.in_ok-gathered.gathered) c.deref.ensures.value (c.in_ok-gathered.ensures.gathered known.left_out known.fillers))
 
 -- the files of the tree can be read, and so can those that are found
 pub invariant_of-result : goal.invariant_of-result
@@ -42,5 +42,5 @@ returns c =
     let reached = subst (All (λ (entry : Salvaged). entry.found ≡ false)) (sym entries) c.requires.tree.reached in
     let many = c.in_ok-known.ensures.before ∙ c.len.ensures ∙ c.tree.inside.entries.ok.0 ∙ sym (ap length c.in_ok-gathered.ensures.entries) in
     adds_lost known old c.add_unreached.new.gathered more.gathered more.all more.found hidden reached many c.args.tree _ entries (c.in_ok-known.ensures.image ∙ ap (λ (s : Saved). s.image) c.tree.view_is)
-    (ap (λ holes. holes.items) c.in_ok-known.ensures.holes ∙ ap (λ (s : Saved). s.holes) c.tree.view_is) (ap (λ (s : Saved). s.accepted) c.tree.view_is) (sym c.requires.trusted)
-    (ap (λ (s : Saved). s.deleted) c.tree.view_is) refl refl refl refl
+    (ap (λ holes. holes.items) c.in_ok-known.ensures.holes ∙ ap (λ (s : Saved). s.holes) c.tree.view_is) (c.in_ok-known.ensures.fillers ∙ ap (λ (s : Saved). s.fillers) c.tree.view_is) (ap (λ (s : Saved). s.accepted) c.tree.view_is) (sym c.requires.trusted)
+    (ap (λ (s : Saved). s.deleted) c.tree.view_is) refl refl refl refl refl

@@ -36,15 +36,15 @@ with_lost-requires-clause-tree c = subst (λ (image : List ℕ). AreOfOneTree im
 
 pub returns-then-not-trusted-clause-saves : goal.returns-then-not-trusted-clause-saves
 returns-then-not-trusted-clause-saves c = λ given accepts.
-    saves_alone given c.args.volume.was_validated _ refl (subst (Accepts given c.args.volume.was_validated) (sym c.into_image.ensures.same) accepts)
+    saves_alone given c.args.volume.was_validated c.args.listed _ refl refl (subst (Accepts given c.args.volume.was_validated) (sym c.into_image.ensures.same) accepts)
     (tree_of _ c.args.volume.image c.in_ok-entries.entries.items c.deref.result.now c.root.result c.into_image.ensures.same refl c.in_ok-entries.ensures.located c.root.ensures.root
     (λ t s. subst (AreBelow t None 0 (entries t c.root.result)) (sym c.deref.ensures.value) (c.in_ok-below.ensures.below t s)) c.in_ok-entries.ensures.told)
     (c.in_ok-deleted.ensures.trust given accepts) (c.in_ok-deleted.ensures.deleted given accepts) c.if-not-trusted.true c.in_ok-entries.ensures.one.reached
 
 pub returns-clause-saves : goal.returns-clause-saves
 returns-clause-saves c = λ given accepts.
-    IfOk-weaker c.with_lost.result (AddsLost _) (SavesTree given)
-    (λ new adds. saves_beside given c.args.volume.was_validated _ refl (subst (Accepts given c.args.volume.was_validated) (sym c.into_image.ensures.same) accepts)
+    IfOk-weaker c.with_lost.result (AddsLost _) (SavesTree c.args.listed given)
+    (λ new adds. saves_beside given c.args.volume.was_validated c.args.listed _ refl refl (subst (Accepts given c.args.volume.was_validated) (sym c.into_image.ensures.same) accepts)
     (tree_of _ c.args.volume.image c.in_ok-entries.entries.items c.deref.result.now c.root.result c.into_image.ensures.same refl c.in_ok-entries.ensures.located c.root.ensures.root
     (λ t s. subst (AreBelow t None 0 (entries t c.root.result)) (sym c.deref.ensures.value) (c.in_ok-below.ensures.below t s)) c.in_ok-entries.ensures.told)
     (c.in_ok-deleted.ensures.trust given accepts) (c.in_ok-deleted.ensures.deleted given accepts) c.if-not-trusted.false new adds) c.with_lost.ensures

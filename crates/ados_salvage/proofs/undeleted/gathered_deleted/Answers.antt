@@ -8,6 +8,6 @@ loop-entry-init c =
     let known = c.args.known.now in
     record {
       gathered = gathered_tree known c.in_ok-gathered.gathered 0 c.requires.known c.requires.none
-          (subst (λ (holes : List Bool). AreGathered 0 known.left_out holes known.image c.in_ok-gathered.gathered) c.deref.ensures.value (c.in_ok-gathered.ensures known.left_out));
+          (subst (λ (holes : List Bool). AreGathered 0 known.left_out holes known.fillers known.image c.in_ok-gathered.gathered) c.deref.ensures.value (c.in_ok-gathered.ensures known.left_out known.fillers));
       climbed = search rules;
     }

@@ -1,4 +1,4 @@
-use Rattle.std.proofs.Common.{◌≡◌, ℕ, ◌+◌, ◌-◌, ◌*◌, ◌<◌, ◌≤◌, length}
+use Rattle.std.proofs.Common.{◌-◌}
 use denote.Text.{Utf8}
 use denote.Shadow.{shadow}
 use Rattle.adf_archive.proofs.reasons.ReasonsDisplay.fmt.Given as goal

@@ -13,6 +13,6 @@ returns c =
     (λ blocks lists. are_extensions c.args.salvage.now c.in_ok-marks.marks.items c.mark_extensions.new.marks.items blocks.items
     (subst (λ (image : List ℕ). HasNoMarks image c.in_ok-marks.marks.items) same c.in_ok-marks.ensures)
     (subst (λ (image : List ℕ). Adds (OfOne (IsOfDamaged image) c.args.salvage.now.entries) c.in_ok-marks.marks.items c.mark_extensions.new.marks.items) same
-    (subst (λ (entries : List Salvaged). Adds (OfOne (IsOfDamaged c.image-image.result.now) entries) c.in_ok-marks.marks.items c.mark_extensions.new.marks.items) c.entries.ensures c.mark_extensions.ensures))
+    (subst (λ (entries : List Salvaged). Adds (OfOne (IsOfDamaged c.image-image.result.now) entries) c.in_ok-marks.marks.items c.mark_extensions.new.marks.items) c.entries.ensures c.in_ok-mark_extensions.ensures))
     (subst (λ (marks : List Bool). ListsAll (IsMarked marks) blocks.items) c.deref.ensures.value lists))
     c.marked_blocks.ensures

@@ -1,11 +1,10 @@
-use Rattle.std.proofs.Common.{◌≡◌, ℕ, ◌+◌, ◌-◌, ◌/◌, ◌%◌, ◌++◌, List, length, map, ap, ap₂, ◌∙◌, arith}
+use Rattle.std.proofs.Common.{◌≡◌, ℕ, ◌+◌, ◌-◌, ◌/◌, ◌%◌, ◌++◌, length, map, ap, ap₂, ◌∙◌, arith}
 use Rattle.std.specs.List.{range_with_len}
 use Rattle.ados_salvage.proofs.AccountCommon.{pointer, data_blocks, pointer_block}
 use Rattle.ados_data.proofs.Places.{readable}
 use Rattle.ados_salvage.proofs.OwnBlocks.{needed_is}
 use Rattle.ados_salvage.proofs.Telling.{told_more}
 use Rattle.ados_salvage.specs.Parts.{data_told}
-use Rattle.ados_salvage.specs.declared.account.part.Told.{Told}
 use Rattle.ados_salvage.specs.declared.account.part.Part.TheVariants.{Data}
 use Rattle.ados_salvage.proofs.account.blocks.push_file.Goals as goal
 

@@ -4,7 +4,6 @@ use Rattle.adf_block.specs.declared.layout.TheConstants.{FIRST_PAGE}
 use Rattle.ados_salvage.proofs.Telling.{told_more}
 use Rattle.ados_salvage.specs.Parts.{page_told}
 use Rattle.ados_salvage.specs.declared.account.part.Part.TheVariants.{Page}
-use Rattle.ados_salvage.specs.declared.account.part.Told.{Told}
 use Rattle.ados_salvage.proofs.account.blocks.push_pages.Goals as goal
 
 pub loop-p-preserved : goal.loop-p-preserved

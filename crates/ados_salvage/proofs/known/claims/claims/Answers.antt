@@ -1,4 +1,4 @@
-use Rattle.ados_salvage.proofs.KnownCommon.{◌≡◌, ℕ, ◌+◌, ◌<◌, ◌↔◌, List, Vec, Global, length, Contains, sym, ap, ◌∙◌, subst, arith, block_count, Claim, own_blocks, AreClaims, HasClaim, IsNoted}
+use Rattle.ados_salvage.proofs.KnownCommon.{◌≡◌, ℕ, ◌+◌, List, Vec, Global, length, sym, ap, ◌∙◌, subst, arith, block_count, Claim, own_blocks, AreClaims, HasClaim, IsNoted}
 use Rattle.ados_salvage.proofs.Claiming.{claims_more, claims_same, all_within, refilled}
 use Rattle.ados_salvage.proofs.known.claims.claims.Goals as goal
 use Rattle.ados_salvage.proofs.known.claims.claims.Goals.{in-Some, in_default}

@@ -1,7 +1,0 @@
-use Rattle.std.proofs.Common.{ℕ, ◌<◌}
-use Rattle.adf_archive.proofs.Common.{RepeatsFrom}
-use Rattle.adf_archive.proofs.filler.repeats.Given as goal
-
--- the bytes are the text from no byte before this one on
-abbrev pub invariant-loop-start : goal.invariant-loop-start
-invariant-loop-start l = (s : ℕ) → s < l.start → ¬ RepeatsFrom l.text l.bytes s
