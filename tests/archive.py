@@ -27,7 +27,7 @@ sys.dont_write_bytecode = True
 from all_faults_model import lines_of
 from disk_model import account_of, doubts_told, rest_of, rest_text, rest_told
 from drawn_volume import Drawer, drawn, read
-from harmful import hang, join, places_in, put_entry
+from harmful import places_in, share_entries, share_extensions
 from harness import BLOCK, DIRECTORY, FILE, HEADER, SLOTS, Image, Ran, Room, slot_of, try_all
 
 ROUNDS = int(os.environ.get("ROUNDS", "1000"))
@@ -992,27 +992,36 @@ def many_faults(room: Room) -> None:
     room.succeeds("every fault of an image that shows none", "check", "--all", "filled.adf", output=b"ok\n")
 
 
-def tangled_disks(room: Room) -> None:
-    """Directories whose slots all lead into one chain, so that its entries are reached in very many roles. With few faults all of
-    them are listed, and with more than 1,000 the last line is `more`."""
+def same_faults(room: Room, title: str, image: Image) -> None:
+    """Compares the faults of an image, or the first 1,000 of them and `more`, with those of the model."""
+    room.write("tangled.adf", bytes(image.data))
+    ran = room.run("check", "--all", "tangled.adf")
+    told = [b" ".join(line.split()[1:3]).decode() if line != b"more" else "more" for line in ran.output.splitlines()]
+    room.report.same(f"all faults of {title}", (ran.status, told), (3, faults_by_model(room, "tangled.adf")))
+
+
+def shared_entries(room: Room) -> None:
+    """Directories whose slots all lead into one chain, so that its entries are reached in very many roles. The faults are listed, or
+    the first 1,000 of them and `more`, also where the entries of the chain share names, or share one with an entry of a directory."""
     room.done("blank", "--ffs", "Tangled", "blank.adf")
-    for directories, slots, entries in ((60, SLOTS, 20), (1_100, 8, 10)):
+    for directories, slots, entries, own, alike in ((60, SLOTS, 20, 0, 1), (1_100, 8, 10, 0, 1), (1_100, 8, 10, 0, 2), (700, 1, 40, 600, 1), (30, 2, 20, 25, 3)):
         image = Image(room.content("blank.adf"))
         places = places_in(image)
-        chain, shared = places[:directories], places[directories : directories + entries]
-        for block in chain:
-            put_entry(image, block, DIRECTORY, b"d%d" % block, image.root)
-            image.put_all(block, 6, [shared[0]] * slots)
-        for block in shared:
-            put_entry(image, block, FILE, b"f%d" % block, chain[0])
-        join(image, chain)
-        join(image, shared)
-        image.settle(chain[-1])
-        hang(image, image.root, chain[0])
-        room.write("tangled.adf", bytes(image.data))
-        ran = room.run("check", "--all", "tangled.adf")
-        told = [b" ".join(line.split()[1:3]).decode() if line != b"more" else "more" for line in ran.output.splitlines()]
-        room.report.same(f"all faults of {directories} directories of one chain", (ran.status, told), (3, faults_by_model(room, "tangled.adf")))
+        shared, rest = places[:entries], places[entries:]
+        share_entries(image, rest[:directories], shared, slots, rest[directories : directories + own], alike)
+        same_faults(room, f"{directories} directories of one chain, {own} with entries of their own, {alike} of a name", image)
+
+
+def shared_extensions(room: Room) -> None:
+    """Files whose extension blocks lie on one chain, which ends or leads back, in both kinds: the faults by the model."""
+    for kind in ("--ffs", None):
+        room.done("blank", *([kind] if kind else []), "Tangled", "blank.adf")
+        for files, extensions, back, spread in ((40, 12, -1, False), (40, 12, -1, True), (40, 12, 0, True), (40, 12, 5, True), (300, 60, -1, True), (300, 60, 20, True)):
+            image = Image(room.content("blank.adf"))
+            places = places_in(image)
+            share_extensions(image, places[extensions : extensions + files], places[:extensions], back, spread)
+            how = "that ends" if back < 0 else f"that leads back to block {back} of it"
+            same_faults(room, f"{files} files of one chain of {extensions} extension blocks {how}, {kind or 'OFS'}, entered {'all along' if spread else 'at its start'}", image)
 
 
 def other_kinds(room: Room) -> None:
@@ -1870,7 +1879,7 @@ def deleted_entries(room: Room) -> None:
 
 def main(words: List[str]) -> int:
     random.seed(3)
-    parts = (named_images, directories, strange_names, listed, other_files, next_commands, filler_blocks, long_paths_of_fillers, largest_filled, drawn_fillers, parallel, accepted_objects, refused_objects, shown_values, texts_told, bounded, many_faults, tangled_disks, other_kinds, model, longs_told, salvage, salvaged_fillers, found_by_numbers, lowest_by_number, loose_extensions, put_right, not_put_right, data_like_a_header, rows, deleted_entries, damages)
+    parts = (named_images, directories, strange_names, listed, other_files, next_commands, filler_blocks, long_paths_of_fillers, largest_filled, drawn_fillers, parallel, accepted_objects, refused_objects, shown_values, texts_told, bounded, many_faults, shared_entries, shared_extensions, other_kinds, model, longs_told, salvage, salvaged_fillers, found_by_numbers, lowest_by_number, loose_extensions, put_right, not_put_right, data_like_a_header, rows, deleted_entries, damages)
     return try_all(words, Room, *parts)
 
 

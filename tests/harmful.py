@@ -271,6 +271,50 @@ def go_down(image: Image, directories: Places) -> None:
         put_entry(image, block, DIRECTORY, b"d%d" % block if at == 0 else b"d", slot=0 if at + 1 == len(directories) else directories[at + 1])
 
 
+def put_extension(image: Image, block: int, file: int, pointers: Sequence[int], extension: int) -> None:
+    """Draws an extension block of a file over a block, with these data blocks and the next extension block."""
+    image.data[block * BLOCK : (block + 1) * BLOCK] = bytes(BLOCK)
+    for at, value in ((0, 16), (1, block), (2, len(pointers)), (125, file), (126, extension), (127, FILE)):
+        image.put(block, at, value)
+    image.put_all(block, 78 - len(pointers), pointers[::-1])
+    image.settle(block)
+
+
+def share_entries(image: Image, directories: Places, shared: Places, slots: int = 1, own: Places = (), alike: int = 1) -> None:
+    """Directories in the root whose chains all lead into one chain of files. So many files in a row have one name. Each directory
+    may have a file of its own before the chain, with the name of one in it."""
+    def name(at: int) -> bytes:
+        return b"f%d" % (at // alike)
+
+    for at, block in enumerate(directories):
+        put_entry(image, block, DIRECTORY, b"d%d" % block, image.root)
+        image.put_all(block, 6, [own[at] if at < len(own) else shared[0]] * slots)
+    for at, block in enumerate(own):
+        put_entry(image, block, FILE, name(at % len(shared)), directories[at])
+        image.put(block, 124, shared[at % len(shared)])
+        image.settle(block)
+    for at, block in enumerate(shared):
+        put_entry(image, block, FILE, name(at), directories[0])
+    join(image, directories)
+    join(image, shared)
+    image.settle(directories[-1])
+    hang(image, image.root, directories[0])
+
+
+def share_extensions(image: Image, files: Places, chain: Places, back: int, spread: bool) -> None:
+    """Files in the root whose extension blocks all lie on one chain. Its last block leads back to the one with this number, or
+    ends the chain if there is none. The files enter it at its first block, or at different ones."""
+    for at, block in enumerate(files):
+        put_entry(image, block, FILE, b"f%d" % block, image.root)
+        put_pointers(image, block, 30_000 + at, chain[: at % 3], chain[at % len(chain) if spread else 0])
+    for at, block in enumerate(chain):
+        following = chain[at + 1] if at + 1 < len(chain) else chain[back] if back >= 0 else 0
+        put_extension(image, block, files[0], chain[at : at + at % 4], following)
+    join(image, files)
+    image.settle(files[-1])
+    hang(image, image.root, files[0])
+
+
 def parts_of(places: Places, size: int) -> List[Places]:
     """Parts of the places with so many each; what is left over is in none."""
     return [places[at : at + size] for at in range(0, len(places) - size + 1, size)]

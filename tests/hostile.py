@@ -25,8 +25,8 @@ The made images consist of headers only: of files that claim too many blocks, of
 again and again. The time and the memory of their salvage must be bounded, and so must be the size of the salvaged files.
 
 Other images are accepted, and as deep or as full as their blocks allow: a chain of directories through all blocks, many files in
-the deepest directory, all names in one hash chain. Each command over them has a bound on its memory, its stack and its processor
-time.
+the deepest directory, all names in one hash chain. Others are refused, since half of their blocks are directories or files that all
+lead into one chain of the other half. Each command over them has a bound on its memory, its stack and its processor time.
 
 A limit on the length of files is set as a shell sets it, so that a write past it would end the program. Commands are killed by
 the signals of a terminal, and the next command must remove what they left.
@@ -83,6 +83,8 @@ from harmful import (
     put_header,
     put_name,
     refused,
+    share_entries,
+    share_extensions,
     shares_list,
 )
 from harness import (
@@ -1699,6 +1701,27 @@ def one_hash_chain(blocks: int, room: Shared) -> None:
     room.report.same(f"what is left of {title} of {blocks} blocks", left, b"Volume Work\n")
 
 
+def shared_chains(blocks: int, room: Shared) -> None:
+    """Directories that all lead into one chain of entries, and files that all lead into one chain of extension blocks, each as many as
+    the chain has blocks. What they show is listed, and the kinds of the blocks are told, in time."""
+    for kind in ("--ffs", None):
+        room.done("blank", *([kind] if kind else []), "--blocks", str(blocks), *MOMENT, "Work", "blank.adf")
+        drawn = Image(room.content("blank.adf"))
+        places = places_in(drawn)
+        half = len(places) // 2
+        if kind:
+            share_entries(drawn, places[half:], places[:half])
+        else:
+            share_extensions(drawn, places[half:], places[:half], -1, False)
+        title = "directories of one chain" if kind else "files of one chain of extension blocks"
+        room.write("shared.adf", bytes(drawn.data))
+        told = bounded(room, blocks, f"check --all of {title}", ["check", "--all", "shared.adf"], 3)
+        room.report.same(f"the faults of {title} of {blocks} blocks", (told.count(b"refused "), told.splitlines()[-1]), (MOST_FAULTS, b"more"))
+        bounded(room, blocks, f"map of {title}", ["map", "shared.adf"], 3)
+        bounded(room, blocks, f"where of {title}", ["where", "shared.adf", str(places[0])], 3)
+        bounded(room, blocks, f"validate of {title}", ["validate", *MOMENT, "shared.adf"], 3)
+
+
 def longest_bundle(room: Shared) -> None:
     """A bundle of the largest image: the longest description that is written, and one that is too long by one file."""
     blocks = LARGEST // BLOCK
@@ -1750,6 +1773,7 @@ def disks() -> List[Task[Shared]]:
         found.append((f"a chain of directories of {blocks} blocks", partial(deep_images, blocks)))
         found.append((f"directories that are found of {blocks} blocks", partial(found_chain, blocks)))
         found.append((f"blocks that are asked for of {blocks} blocks", partial(asked_blocks, blocks)))
+        found.append((f"chains that are shared of {blocks} blocks", partial(shared_chains, blocks)))
     for size, (title, _, _) in reversed(list(enumerate(SIZES))):
         found.append((f"{title}, files that claim more", partial(floppies, size)))
         found.append((f"{title}, chains", partial(chains, size)))

@@ -569,8 +569,7 @@ static inline void jip_set_file_size(jip_packet *packet, jip_date moment, uint32
 
 /* Lists the faults of an image, lowest block first and then by kind: at most JIP_MOST_FAULTS of them. JIP_DONE also for bytes
    that are no image; an image that jip_open accepts has no faults. Of an image that is no DOS disk, or one of an unsupported
-   kind, only that is listed. `*more` is set to 1 if the image may have faults that are
-   not listed, and else to 0. */
+   kind, only that is listed. `*more` is set to 1 if the image shows others, so that these are the first ones, and else to 0. */
 int32_t jip_check(const void *bytes, size_t length, jip_fault *faults, size_t room, size_t *count, int32_t *more);
 
 #define JIP_MOST_FAULTS 1000

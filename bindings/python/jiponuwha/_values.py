@@ -159,7 +159,7 @@ class Fault(NamedTuple):
 
 
 class Faults(tuple[Fault, ...]):
-    """The faults of an image, by block and then by kind, at most 1,000. `more` says whether there may be others."""
+    """The faults of an image, by block and then by kind, the first 1,000. `more` says whether there are others."""
 
     more: bool = False
 

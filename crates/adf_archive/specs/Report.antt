@@ -96,8 +96,8 @@ IsReport detail image (Refused told) = IsRefused image told
 IsReport detail image (WrongSize fault) = IsSizeFault (length image) fault
 IsReport detail image (NotChecked why) = IsUnchecked detail image why
 
--- of a disk of another kind that alone is reported. Of any other each fault that it shows is reported, or 1,000 of them and
--- `more`, exactly if it shows more; these are the first ones, unless it is tangled
+-- of a disk of another kind that alone is reported. Of any other each fault that it shows is reported, or the first 1,000 of them
+-- and `more`, exactly if it shows more
 abbrev pub IsComplete : List ℕ → ImageReport → Type 0
 IsComplete image (Refused told) = AreAllFaults image MOST_FAULTS told.more (map (λ shown. shown.fault) told.faults.items)
 IsComplete image report = ⊤

@@ -54,8 +54,7 @@ AreFindings image marks _ _ = ⊥
 
 -- the bytes are an image, and these are its faults in order, none exactly if it shows none, with the longs that show them
 -- by the marks of the image; an image without faults has no more of them. Of a disk of another kind that alone is listed.
--- Of any other each fault that it shows is listed, or there are more, exactly if it shows more; then the first ones are
--- listed, unless it is tangled
+-- Of any other each fault that it shows is listed, or the first ones and that there are more, exactly if it shows more
 pub record TellsFindings (bytes : List ℕ) (told : List JipFinding) (more : Bool) : Type 0 where
   pub image : IsImage bytes
   pub faults : List VolumeFault
@@ -74,7 +73,7 @@ pub record TellsSizeFinding (bytes : List ℕ) (told : List JipFinding) (more : 
   pub told_is : told ≡ bare_finding (pos (size_fault_number size)) 0 ∷ []
   pub alone : more ≡ false
 
--- the faults of the bytes, and whether there may be more of them
+-- the faults of the bytes, and whether there are more of them
 abbrev pub AreFindingsOf : List ℕ → List JipFinding → Bool → Type 0
 AreFindingsOf bytes told more = TellsFindings bytes told more ⊎ TellsSizeFinding bytes told more
 

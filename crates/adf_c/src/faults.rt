@@ -7,7 +7,7 @@ use crate::values::{JipFault, JipFinding, Refusal, copy_to, faults_in, findings_
 use std::alloc::Global;
 
 /// Lists the faults of an image, by block and then by kind: the first 1,000 of them. They are written to `faults`, as
-/// many as it has room for, and `count` is how many there are. `more` is 1 if the image may have more. The status is 0,
+/// many as it has room for, and `count` is how many there are. `more` is 1 if the image shows more. The status is 0,
 /// also for bytes that are no image.
 ///
 /// Status 2: out of memory. Nothing is written then.

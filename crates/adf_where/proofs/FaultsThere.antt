@@ -7,7 +7,6 @@ use Rattle.std.proofs.lemmas.Bool.{cases_lt, eq-eqb, leb-false, leb-true, ltb-fa
 use Rattle.std.proofs.lemmas.List.Edits.{get_or-between, length-between, split_between}
 use Rattle.std.proofs.lemmas.List.Elements.{All-filter, All-head, All-tail, filter-append, filter_passes}
 use Rattle.std.proofs.lemmas.List.Kept.{AllPairs-filter}
-use Rattle.ados_faults.specs.declared.listing.AllFaults.{AllFaults}
 use Rattle.ados_model.specs.declared.fault.FaultKind.TheVariants.{DuplicateName}
 use Rattle.ados_model.specs.Faults.{Shows}
 
@@ -56,26 +55,26 @@ module _ {X : Type 0} (p : X → Bool) where
 abbrev of_block : ℕ → VolumeFault → Bool
 of_block block fault = fault.block == block
 
-pub faults_there : (image : List ℕ) (block : ℕ) (found : AllFaults) (faults : List VolumeFault) → AreFound image found → faults ≡ filter (λ fault. fault.block == block) found.faults.items
-    → AreFaultsAt image block found.more faults
-faults_there image block found faults h is = subst (AreFaultsAt image block found.more) (sym is) (record {
-  in_order = AllPairs-filter StandsBefore (of_block block) found.faults.items h.lists.in_order;
+pub faults_there : (image : List ℕ) (block : ℕ) (found faults : List VolumeFault) → AreFound image found → faults ≡ filter (λ fault. fault.block == block) found
+    → AreFaultsAt image block faults
+faults_there image block found faults h is = subst (AreFaultsAt image block) (sym is) (record {
+  in_order = AllPairs-filter StandsBefore (of_block block) found h.lists.in_order;
   shown = λ k d l. record {
-    at = eqb-true (get_or (filter (of_block block) found.faults.items) k d).block block (filter_passes (of_block block) found.faults.items k d l);
-    shown = All-filter (of_block block) (λ fault. Shows image fault.kind fault.block) found.faults.items h.lists.shown k d l;
+    at = eqb-true (get_or (filter (of_block block) found) k d).block block (filter_passes (of_block block) found k d l);
+    shown = All-filter (of_block block) (λ fault. Shows image fault.kind fault.block) found h.lists.shown k d l;
   };
-  all = λ whole kind shows. kept (of_block block) (fault_of kind block) (eq-eqb block block refl) found.faults.items (h.each whole kind block shows);
+  all = λ kind shows. kept (of_block block) (fault_of kind block) (eq-eqb block block refl) found (h.all kind block shows);
 })
 
--- whether there are any says whether the block is known to show one
-pub shown_there : (image : List ℕ) (block : ℕ) (more : Bool) (faults : List VolumeFault) (none : Bool) → AreFaultsAt image block more faults → none ≡ (length faults == 0)
-    → MatchBool (not none) (ShowsAt image block) (more ≡ false → ¬ ShowsAt image block)
-shown_there image block more [] none are is =
-    subst (λ (b : Bool). MatchBool (not b) (ShowsAt image block) (more ≡ false → ¬ ShowsAt image block)) (sym is)
-    (λ whole shows. absurd (omega (arith, (are.all whole shows.0 shows.1).1)))
-shown_there image block more (fault ∷ faults) none are is =
+-- whether there are any says whether the block shows one
+pub shown_there : (image : List ℕ) (block : ℕ) (faults : List VolumeFault) (none : Bool) → AreFaultsAt image block faults → none ≡ (length faults == 0)
+    → MatchBool (not none) (ShowsAt image block) (¬ ShowsAt image block)
+shown_there image block [] none are is =
+    subst (λ (b : Bool). MatchBool (not b) (ShowsAt image block) (¬ ShowsAt image block)) (sym is)
+    (λ shows. absurd (omega (arith, (are.all shows.0 shows.1).1)))
+shown_there image block (fault ∷ faults) none are is =
     let here = are.shown 0 fault (omega arith) in
-    subst (λ (b : Bool). MatchBool (not b) (ShowsAt image block) (more ≡ false → ¬ ShowsAt image block)) (sym (is ∙ ne_eqb (suc (length faults)) 0 (λ e. omega (arith, e))))
+    subst (λ (b : Bool). MatchBool (not b) (ShowsAt image block) (¬ ShowsAt image block)) (sym (is ∙ ne_eqb (suc (length faults)) 0 (λ e. omega (arith, e))))
     (fault.kind, subst (Shows image fault.kind) here.at here.shown)
 
 module _ (faults : List VolumeFault) (up : AllPairs StandsBefore faults) where

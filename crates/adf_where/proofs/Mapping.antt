@@ -1,5 +1,5 @@
 -- Maps: what blocks are by the places that name them, and letters in columns.
-use Rattle.adf_where.proofs.Common.{◌≡◌, ℕ, zero, suc, ◌+◌, ◌<◌, ◌≤◌, inl, inr, Bool, false, List, [], ◌∷◌, ◌++◌, map, get_or, get_or_default, Contains, refl, sym, ap, ◌∙◌, subst, arith, append_assoc, flat_map, AllZip, all_zipped_more, AreAllPlaces, Place}
+use Rattle.adf_where.proofs.Common.{◌≡◌, ℕ, zero, suc, ◌+◌, ◌<◌, ◌≤◌, inl, inr, Bool, List, [], ◌∷◌, ◌++◌, map, get_or, get_or_default, Contains, refl, sym, ap, ◌∙◌, subst, arith, append_assoc, flat_map, AllZip, all_zipped_more, AreAllPlaces, Place}
 use Rattle.std.specs.Prelude.{◌≢◌, Some, slice_get}
 use Rattle.std.proofs.lemmas.Option.{get_or_from_slice_get, slice_get_within}
 use Rattle.std.specs.List.{range_with_len}
@@ -39,12 +39,12 @@ line_more f before now new i is grown =
     grown ∙ ap (λ (l : List ℕ). l ++ f i) is ∙ append_assoc before done (f i) ∙ ap (λ (l : List ℕ). before ++ l) (sym more)
 
 -- the letter of one more block
-pub letter_more : (image : List ℕ) (unread : List Bool) (more : Bool) (n : ℕ) (before after : List ℕ) (shown : ℕ) → AllZip (HasLetter image unread more) (range_with_len 0 n) before → HasLetter image unread more n shown → after ≡ before ++ shown ∷ []
-    → AllZip (HasLetter image unread more) (range_with_len 0 (n + 1)) after
-letter_more image unread more n before after shown done here is =
-    subst (λ (l : List ℕ). AllZip (HasLetter image unread more) (range_with_len 0 (n + 1)) l) (sym is)
-    (subst (λ (blocks : List ℕ). AllZip (HasLetter image unread more) blocks (before ++ shown ∷ [])) (sym (range_more 0 n n (omega arith)))
-    (all_zipped_more (HasLetter image unread more) (range_with_len 0 n) before n shown done here))
+pub letter_more : (image : List ℕ) (unread : List Bool) (n : ℕ) (before after : List ℕ) (shown : ℕ) → AllZip (HasLetter image unread) (range_with_len 0 n) before → HasLetter image unread n shown → after ≡ before ++ shown ∷ []
+    → AllZip (HasLetter image unread) (range_with_len 0 (n + 1)) after
+letter_more image unread n before after shown done here is =
+    subst (λ (l : List ℕ). AllZip (HasLetter image unread) (range_with_len 0 (n + 1)) l) (sym is)
+    (subst (λ (blocks : List ℕ). AllZip (HasLetter image unread) blocks (before ++ shown ∷ [])) (sym (range_more 0 n n (omega arith)))
+    (all_zipped_more (HasLetter image unread) (range_with_len 0 n) before n shown done here))
 
 -- ---- what a block is by all places that name it
 
@@ -64,10 +64,10 @@ plain_by_place image block marks.Root inside other is = absurd is
 plain_by_place image block mark inside other is = (inside, other, is)
 
 -- a block that is named once at most, without a known fault
-pub plain_marked : (image : List ℕ) (more : Bool) (block : ℕ) (mark : BlockMark) → ¬ IsNamedTwice image block → (more ≡ false → ¬ ShowsAt image block) → IsPlain image block mark → HasMark image more block mark
-plain_marked image more block marks.Twice once sound is = absurd is.2
-plain_marked image more block marks.Faulty once sound is = absurd is.2
-plain_marked image more block mark once sound is = (once, sound, is)
+pub plain_marked : (image : List ℕ) (block : ℕ) (mark : BlockMark) → ¬ IsNamedTwice image block → (¬ ShowsAt image block) → IsPlain image block mark → HasMark image block mark
+plain_marked image block marks.Twice once sound is = absurd is.2
+plain_marked image block marks.Faulty once sound is = absurd is.2
+plain_marked image block mark once sound is = (once, sound, is)
 
 module _ (image : List ℕ) (block : ℕ) (places : List Place) (all : AreAllPlaces image block places) where
   named_at : (one : Place) → Contains places one → NamesBlock image block one

@@ -22,7 +22,7 @@ place_objects = record { begins = λ first one. behind_comma first _; whole = λ
 
 -- the members behind the faults
 abbrev last_tokens : FaultyBlock → List Token
-last_tokens told = key (codes "more") ∷ boolean told.more ∷ (unread_tokens told.unread ++ end_object ∷ [])
+last_tokens told = key (codes "more") ∷ boolean false ∷ (unread_tokens told.unread ++ end_object ∷ [])
 
 pub faulty_objects : (blocks : ℕ) → AreObjects (faulty_tokens blocks)
 faulty_objects blocks = record {

@@ -106,13 +106,12 @@ front_whole true kind at blocks told =
     ∙ ap (λ (l : List ℕ). print front ++ l) (append_assoc (print array) (codes "}") (codes "\n")))
 
 -- the text tells of the blocks that the arguments name
-pub faulty_text : (json : Bool) (unread : List Bool) (image kind : List ℕ) (at : ℕ) (words : List BlockWord) (count : ℕ) (blocks : List ℕ) (more : Bool) (told now : List FaultyBlock) (front : List ℕ) → count ≡ block_count image
-    → AreNamed count words blocks → AllZip (IsFaultyBlock image unread more) blocks told → now ≡ told → front ≡ refused_front json kind at
+pub faulty_text : (json : Bool) (unread : List Bool) (image kind : List ℕ) (at : ℕ) (words : List BlockWord) (count : ℕ) (blocks : List ℕ) (told now : List FaultyBlock) (front : List ℕ) → count ≡ block_count image
+    → AreNamed count words blocks → AllZip (IsFaultyBlock image unread) blocks told → now ≡ told → front ≡ refused_front json kind at
     → IsFaultyWhere json unread image kind at words (front ++ blocks_text json count now)
-faulty_text json unread image kind at words count blocks more told now front of_count named are same is = record {
+faulty_text json unread image kind at words count blocks told now front of_count named are same is = record {
   blocks = blocks;
   named = subst (λ (n : ℕ). AreNamed n words blocks) of_count named;
-  more = more;
   told = told;
   are_told = are;
   text_is =

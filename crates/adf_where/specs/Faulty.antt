@@ -6,8 +6,7 @@ use Rattle.json.specs.Token.{Token, begin_object, boolean, end_object, key, numb
 use Rattle.json.specs.Print.{print}
 use Rattle.adf_block.specs.Image.{block_count}
 use Rattle.adf_block.specs.declared.layout.TheConstants.{BOOT_BLOCKS, FIRST_PAGE, FIRST_POINTER}
-use Rattle.ados_faults.specs.Listed.{ListsEach, ListsFaults, StandsBefore, fault_of}
-use Rattle.ados_faults.specs.declared.listing.AllFaults.{AllFaults}
+use Rattle.ados_faults.specs.Listed.{ListsAll, ListsFaults, StandsBefore, fault_of}
 use Rattle.ados_model.specs.declared.fault.FaultKind.{FaultKind}
 use Rattle.ados_model.specs.declared.fault.VolumeFault.{VolumeFault}
 use Rattle.ados_model.specs.Faults.{Shows, root_of}
@@ -22,30 +21,29 @@ use Rattle.adf_where.specs.Refused.{fault_reason, refused_line}
 use Rattle.adf_where.specs.Unread.{unread_of}
 use Rattle.adf_where.specs.Where.{AreNamed, array_of, place_text, place_tokens, unread_line, unread_tokens}
 
--- these are faults that an image shows, in order, and all of them unless there may be more
-pub record AreFound (image : List ℕ) (found : AllFaults) : Type 0 where
+-- these are all faults that an image shows, in order
+pub record AreFound (image : List ℕ) (faults : List VolumeFault) : Type 0 where
   pub most : ℕ
-  pub lists : ListsFaults image most found.faults.items
-  pub each : ListsEach image found.more found.faults.items
+  pub lists : ListsFaults image most faults
+  pub all : ListsAll image faults
 
 -- the image shows this fault at this block
 pub record IsFaultAt (image : List ℕ) (block : ℕ) (fault : VolumeFault) : Type 0 where
   pub at : fault.block ≡ block
   pub shown : Shows image fault.kind fault.block
 
--- these are faults that the image shows at the block, in order, each once: all of them, unless there may be more
-pub record AreFaultsAt (image : List ℕ) (block : ℕ) (more : Bool) (faults : List VolumeFault) : Type 0 where
+-- these are the faults that the image shows at the block, in order, each once
+pub record AreFaultsAt (image : List ℕ) (block : ℕ) (faults : List VolumeFault) : Type 0 where
   pub in_order : AllPairs StandsBefore faults
   pub shown : All (IsFaultAt image block) faults
-  pub all : more ≡ false → (kind : FaultKind) → Shows image kind block → Contains faults (fault_of kind block)
+  pub all : (kind : FaultKind) → Shows image kind block → Contains faults (fault_of kind block)
 
 -- a block of the image with all places that name it, with its faults, and with whether it could not be read
-pub record IsFaultyBlock (image : List ℕ) (unread : List Bool) (more : Bool) (block : ℕ) (told : FaultyBlock) : Type 0 where
+pub record IsFaultyBlock (image : List ℕ) (unread : List Bool) (block : ℕ) (told : FaultyBlock) : Type 0 where
   pub block_is : told.block ≡ block
-  pub more_is : told.more ≡ more
   pub root : told.is_root ≡ (block == root_of image)
   pub places : AreAllPlaces image block told.places.now
-  pub faults : AreFaultsAt image block more told.faults.now
+  pub faults : AreFaultsAt image block told.faults.now
   pub unread_is : told.unread ≡ unread_of unread block
 
 -- `of block N`
@@ -84,13 +82,9 @@ place_lines blocks told = flat_map (λ place. block_line blocks told.block (plac
 abbrev pub fault_line : VolumeFault → List ℕ
 fault_line fault = decimal fault.block ++ (codes "  fault " ++ (kind_word fault.kind ++ codes "\n"))
 
--- `BLOCK  more`, if there may be more faults
-abbrev pub more_line : Bool → ℕ → List ℕ
-more_line more block = if more then decimal block ++ codes "  more\n" else []
-
 -- the lines behind those of the places
 abbrev pub behind_lines : FaultyBlock → List ℕ
-behind_lines told = flat_map fault_line told.faults.now ++ (more_line told.more told.block ++ unread_line told.unread told.block)
+behind_lines told = flat_map fault_line told.faults.now ++ unread_line told.unread told.block
 
 -- the lines of a block
 abbrev pub block_lines : ℕ → FaultyBlock → List ℕ
@@ -121,10 +115,10 @@ places_tokens places = key (codes "places") ∷ array_of place_object places
 abbrev pub faults_tokens : List VolumeFault → List Token
 faults_tokens faults = key (codes "faults") ∷ array_of fault_word faults
 
--- the object of a block
+-- the object of a block. All of its faults are in the list, so there are no more
 abbrev pub faulty_tokens : ℕ → FaultyBlock → List Token
 faulty_tokens blocks told =
-    begin_object ∷ place_tokens blocks told.block ++ (places_tokens told.places.now ++ (faults_tokens told.faults.now ++ key (codes "more") ∷ boolean told.more ∷ (unread_tokens told.unread ++ end_object ∷ [])))
+    begin_object ∷ place_tokens blocks told.block ++ (places_tokens told.places.now ++ (faults_tokens told.faults.now ++ key (codes "more") ∷ boolean false ∷ (unread_tokens told.unread ++ end_object ∷ [])))
 
 -- the object of a refused image: why it is refused, and what is told of blocks
 abbrev pub faulty_object : List ℕ → ℕ → ℕ → List FaultyBlock → List Token
@@ -142,7 +136,6 @@ faulty_of json kind at blocks told =
 pub record IsFaultyWhere (json : Bool) (unread : List Bool) (image kind : List ℕ) (at : ℕ) (words : List BlockWord) (text : List ℕ) : Type 0 where
   pub blocks : List ℕ
   pub named : AreNamed (block_count image) words blocks
-  pub more : Bool
   pub told : List FaultyBlock
-  pub are_told : AllZip (IsFaultyBlock image unread more) blocks told
+  pub are_told : AllZip (IsFaultyBlock image unread) blocks told
   pub text_is : text ≡ faulty_of json kind at (block_count image) told

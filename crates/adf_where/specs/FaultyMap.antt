@@ -1,5 +1,5 @@
 -- The map of a refused disk: what each block is by the places that name it, where it shows a fault, and where two places name it.
-use Rattle.std.specs.Prelude.{◌≡◌, ◌≢◌, ◌⊎◌, ℕ, ◌<◌, ◌≤◌, Bool, true, false, if◌then◌else◌, List, [], ◌∷◌, ◌++◌, codes}
+use Rattle.std.specs.Prelude.{◌≡◌, ◌≢◌, ◌⊎◌, ℕ, ◌<◌, ◌≤◌, Bool, true, false, List, [], ◌∷◌, ◌++◌, codes}
 use Rattle.std.specs.List.{AllZip, range_with_len}
 use Rattle.json.specs.Token.{Token, begin_object, boolean, end_object, key, string}
 use Rattle.json.specs.Print.{print}
@@ -10,7 +10,6 @@ use Rattle.ados_census.specs.declared.place.PlaceKind.TheVariants as places
 use Rattle.ados_census.specs.declared.place.Place.{Place}
 use Rattle.ados_census.specs.Places.{NamesBlock, rank}
 use Rattle.ados_check.specs.BitmapTold.{IsFree}
-use Rattle.ados_faults.specs.Listed.{IsTangled}
 use Rattle.ados_model.specs.declared.fault.FaultKind.{FaultKind}
 use Rattle.ados_model.specs.Faults.{HasFileType, InImage, Shows, root_of}
 use Rattle.adf_text.specs.Letters.{letters}
@@ -71,38 +70,31 @@ IsPlain image block mark = InImage image block × (block ≢ root_of image) × I
 abbrev pub ShowsAt : List ℕ → ℕ → Type 0
 ShowsAt image block = (kind : FaultKind) × Shows image kind block
 
--- what a block is in the map: two longs name it; or else it shows a fault; or else it is what it is without one. If there may be more
--- faults than were found, a block without a known one may show one
-abbrev pub HasMark : List ℕ → Bool → ℕ → BlockMark → Type 0
-HasMark image more block Twice = IsNamedTwice image block
-HasMark image more block Faulty = (¬ IsNamedTwice image block) × ShowsAt image block
-HasMark image more block mark = (¬ IsNamedTwice image block) × (more ≡ false → ¬ ShowsAt image block) × IsPlain image block mark
+-- what a block is in the map: two longs name it; or else it shows a fault; or else it is what it is without one
+abbrev pub HasMark : List ℕ → ℕ → BlockMark → Type 0
+HasMark image block Twice = IsNamedTwice image block
+HasMark image block Faulty = (¬ IsNamedTwice image block) × ShowsAt image block
+HasMark image block mark = (¬ IsNamedTwice image block) × (¬ ShowsAt image block) × IsPlain image block mark
 
 -- the letter of a block; some could not be read
-pub record HasLetter (image : List ℕ) (unread : List Bool) (more : Bool) (block shown : ℕ) : Type 0 where
+pub record HasLetter (image : List ℕ) (unread : List Bool) (block shown : ℕ) : Type 0 where
   pub mark : BlockMark
-  pub is : HasMark image more block mark
+  pub is : HasMark image block mark
   pub letter_is : shown ≡ shown_letter unread block mark
 
--- a line that says that there may be more faults, if that is so
-abbrev pub more_text : Bool → List ℕ
-more_text more = if more then codes "more\n" else []
-
--- the object: why the disk is refused, all letters as one text, and whether there may be more faults
-abbrev pub faulty_map_tokens : List ℕ → ℕ → Bool → List ℕ → List Token
-faulty_map_tokens kind at more marks =
-    begin_object ∷ key (codes "refused") ∷ fault_reason kind at ++ (key (codes "map") ∷ string marks ∷ key (codes "more") ∷ boolean more ∷ end_object ∷ [])
+-- the object: why the disk is refused, all letters as one text, and that there are no more faults than these show
+abbrev pub faulty_map_tokens : List ℕ → ℕ → List ℕ → List Token
+faulty_map_tokens kind at marks =
+    begin_object ∷ key (codes "refused") ∷ fault_reason kind at ++ (key (codes "map") ∷ string marks ∷ key (codes "more") ∷ boolean false ∷ end_object ∷ [])
 
 -- the map of a disk that is refused with this word for the fault of a block, in one of its forms
-abbrev pub faulty_map_of : MapForm → List Bool → List ℕ → ℕ → Bool → List ℕ → List ℕ
-faulty_map_of Json unread kind at more marks = print (faulty_map_tokens kind at more (letters marks)) ++ codes "\n"
-faulty_map_of form unread kind at more marks = refused_line kind at ++ (map_page form true unread marks ++ more_text more)
+abbrev pub faulty_map_of : MapForm → List Bool → List ℕ → ℕ → List ℕ → List ℕ
+faulty_map_of Json unread kind at marks = print (faulty_map_tokens kind at (letters marks)) ++ codes "\n"
+faulty_map_of form unread kind at marks = refused_line kind at ++ map_page form true unread marks
 
 -- the text is the map of the image, which is refused with this word for the fault of a block: a letter for each block, of which some could
--- not be read. There may be more faults than were found only if blocks are reached in very many roles
+-- not be read
 pub record IsFaultyMap (form : MapForm) (unread : List Bool) (image kind : List ℕ) (at : ℕ) (text : List ℕ) : Type 0 where
-  pub more : Bool
-  pub tangled : more ≡ true → IsTangled image
   pub marks : List ℕ
-  pub are_marks : AllZip (HasLetter image unread more) (range_with_len 0 (block_count image)) marks
-  pub text_is : text ≡ faulty_map_of form unread kind at more marks
+  pub are_marks : AllZip (HasLetter image unread) (range_with_len 0 (block_count image)) marks
+  pub text_is : text ≡ faulty_map_of form unread kind at marks

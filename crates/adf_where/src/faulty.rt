@@ -1,5 +1,5 @@
 //! Blocks of an image that may be refused, with the places that name them and with their faults.
-ghost use Rattle.std.specs.Prelude.{◌≡◌, ◌<◌, ◌==◌, ℕ, List, false, All, AllPairs, Contains, IfOk, MatchBool, filter};
+ghost use Rattle.std.specs.Prelude.{◌≡◌, ◌<◌, ◌==◌, ℕ, List, All, AllPairs, Contains, IfOk, MatchBool, filter};
 ghost use Rattle.std.specs.List.{AllZip};
 ghost use Rattle.std.specs.List.Sorted.{IsStrictlyIncreasing};
 ghost use Rattle.adf_block.specs.Image.{block_count};
@@ -12,7 +12,6 @@ ghost use Rattle.adf_where.specs.steps.Asked.{AreAllPlacesOfEach, AreAsked};
 use crate::unread::unread_of;
 use adf_block::Image;
 use ados_census::{Place, places_of, reached_blocks, take_census};
-use ados_faults::AllFaults;
 use ados_model::VolumeFault;
 use std::alloc::{AllocError, Global};
 
@@ -23,8 +22,6 @@ pub(crate) struct FaultyBlock<'a> {
     pub(crate) is_root: bool,
     pub(crate) places: &'a [Place],
     pub(crate) faults: &'a [VolumeFault],
-    /// Whether it may have more faults.
-    pub(crate) more: bool,
     /// Whether it could not be read, if that is asked.
     pub(crate) unread: Option<bool>,
 }
@@ -100,17 +97,17 @@ pub(crate) fn faulty_blocks<'a>(
     alloc: Global,
     image: &Image,
     asked: &'a AskedBlocks,
-    found: &'a AllFaults,
+    faults: &'a [VolumeFault],
     unread: &[bool],
     blocks: &[u32],
 ) -> Result<Vec<FaultyBlock<'a>>, AllocError>
     requires asked { AreAsked image.now blocks.now asked.now }
-    requires found { AreFound image.now found.now }
-    ensures { IfOk result (λ told. AllZip (IsFaultyBlock image.now unread.now found.now.more) blocks.now told.items) }
+    requires found { AreFound image.now faults.now }
+    ensures { IfOk result (λ told. AllZip (IsFaultyBlock image.now unread.now) blocks.now told.items) }
 {
     let mut told = Vec::new(alloc);
     for block in blocks {
-        told.push(faulty_block(image, asked, found, unread, *block))?;
+        told.push(faulty_block(image, asked, faults, unread, *block))?;
     }
     Ok(told)
 }
@@ -119,29 +116,28 @@ pub(crate) fn faulty_blocks<'a>(
 fn faulty_block<'a>(
     image: &Image,
     asked: &'a AskedBlocks,
-    found: &'a AllFaults,
+    faults: &'a [VolumeFault],
     unread: &[bool],
     block: u32,
 ) -> FaultyBlock<'a>
-    requires { AreFound image.now found.now }
-    ensures { (blocks : List ℕ) → AreAsked image.now blocks asked.now → Contains blocks block → IsFaultyBlock image.now unread.now found.now.more block result }
+    requires { AreFound image.now faults.now }
+    ensures { (blocks : List ℕ) → AreAsked image.now blocks asked.now → Contains blocks block → IsFaultyBlock image.now unread.now block result }
 {
     FaultyBlock {
         block,
         is_root: block == image.root(),
         places: asked.places(block),
-        faults: faults_at(&found.faults, block),
-        more: found.more,
+        faults: faults_at(faults, block),
         unread: unread_of(unread, block as usize),
     }
 }
 
-/// Whether a block is known to show a fault.
-pub(crate) fn shows_fault(found: &AllFaults, block: u32) -> bool
-    requires { AllPairs StandsBefore found.now.faults.items }
-    ensures { (image : List ℕ) → AreFound image found.now → MatchBool result (ShowsAt image block) (found.now.more ≡ false → ¬ ShowsAt image block) }
+/// Whether a block shows one of these faults.
+pub(crate) fn shows_fault(faults: &[VolumeFault], block: u32) -> bool
+    requires { AllPairs StandsBefore faults.now }
+    ensures { (image : List ℕ) → AreFound image faults.now → MatchBool result (ShowsAt image block) (¬ ShowsAt image block) }
 {
-    !faults_at(&found.faults, block).is_empty()
+    !faults_at(faults, block).is_empty()
 }
 
 /// The faults of a block, among faults in order.

@@ -1,7 +1,7 @@
 //! The lines of blocks of a refused image.
 ghost use Rattle.std.specs.Prelude.{◌≡◌, ◌++◌, IfOk, OnOk, flat_map, option_map};
 ghost use Rattle.std.specs.String.{string_bytes};
-ghost use Rattle.adf_where.specs.Faulty.{behind_lines, block_line, fault_line, first_line, first_words, more_line, place_words};
+ghost use Rattle.adf_where.specs.Faulty.{behind_lines, block_line, fault_line, first_line, first_words, place_words};
 
 use crate::faulty::FaultyBlock;
 use crate::where_lines::{place_text, push_unread};
@@ -93,8 +93,7 @@ fn place_words(alloc: Global, place: Place) -> Result<String, AllocError>
     }
 }
 
-/// Appends the lines behind those of the places: one for each fault, one that says that there may be more faults, if that is so, and one
-/// if the block could not be read.
+/// Appends the lines behind those of the places: one for each fault, and one if the block could not be read.
 pub(crate) fn push_behind(
     alloc: Global,
     text: &mut Vec<u8>,
@@ -103,7 +102,6 @@ pub(crate) fn push_behind(
     ensures { OnOk result (text.new.items ≡ text.old.items ++ behind_lines told.now) }
 {
     push_faults(alloc, text, told.faults)?;
-    push_more(alloc, text, told.more, told.block)?;
     push_unread(alloc, text, told.unread, told.block)
 }
 
@@ -125,15 +123,4 @@ fn fault_line(alloc: Global, fault: VolumeFault) -> Result<String, AllocError>
     let VolumeFault { kind, block } = fault;
     let line = format!(in alloc; "{block}  fault {}\n", kind_word(kind))?;
     Ok(line)
-}
-
-/// Appends the line that says that there may be more faults, if that is so.
-fn push_more(alloc: Global, text: &mut Vec<u8>, more: bool, block: u32) -> Result<(), AllocError>
-    ensures { OnOk result (text.new.items ≡ text.old.items ++ more_line more block) }
-{
-    if !more {
-        return Ok(());
-    }
-    let line = format!(in alloc; "{block}  more\n")?;
-    text.extend_from_slice(line.as_bytes())
 }

@@ -7,7 +7,7 @@ ghost use Rattle.ados_census.specs.Places.{AreAllPlaces};
 ghost use Rattle.ados_model.specs.Faults.{InImage};
 ghost use Rattle.adf_where.specs.BlockMap.{map_page};
 ghost use Rattle.adf_where.specs.Faulty.{AreFound};
-ghost use Rattle.adf_where.specs.FaultyMap.{HasLetter, HasMark, IsFaultyMap, IsPlain, IsSameLong, faulty_map_of, more_text};
+ghost use Rattle.adf_where.specs.FaultyMap.{HasLetter, HasMark, IsFaultyMap, IsPlain, IsSameLong, faulty_map_of};
 ghost use Rattle.adf_where.specs.Refused.{refused_line};
 ghost use Rattle.adf_where.specs.steps.Named.{AreOneLong, HasTwoLongs, IsMarkByBit, IsMarkOf};
 
@@ -22,15 +22,16 @@ use adf_block::layout::{BOOT_BLOCKS, FILE_TYPE, SECONDARY_TYPE};
 use adf_cli::MapForm;
 use ados_census::{Place, PlaceKind, places_of, reached_blocks, take_census};
 use ados_check::{Source, is_free};
-use ados_faults::{AllFaults, faults_of_any_disk};
+use ados_faults::faults_of_any_disk;
+use ados_model::VolumeFault;
 use std::alloc::{AllocError, Global};
 
 /// The map of a refused image, after why it is refused: the letters of its blocks in lines, and what they mean; or a JSON object
-/// on a line of its own. If the image may have more faults than were found, the last line is `more`.
+/// on a line of its own.
 ///
 /// A block that nothing names is free or lost as its bit says, whatever the root says of the bitmap; without a bitmap block
-/// it is lost. `unread` says of each block whether it could not be read, or is empty; such a block has a letter of its own. Time and
-/// memory grow almost linearly with the size of the image.
+/// it is lost. `unread` says of each block whether it could not be read, or is empty; such a block has a letter of its own. Memory
+/// grows linearly with the size of the image. Time is that of all faults (`faults_of_any_disk`).
 pub fn faulty_map_text(
     alloc: Global,
     image: &Image,
@@ -41,42 +42,42 @@ pub fn faulty_map_text(
     ensures { IfOk result (λ text. IsFaultyMap form unread.now image.now reason.kind.now reason.block text.items) }
 {
     let found = faults_of_any_disk(alloc, image)?;
-    let letters = letters_of(alloc, image, &found, unread)?;
-    faulty_text(alloc, reason, form, found.more, &letters, unread)
+    let letters = letters_of(alloc, image, &found.faults, unread)?;
+    faulty_text(alloc, reason, form, &letters, unread)
 }
 
 /// The letters of the blocks of an image with these faults, of which some could not be read.
 fn letters_of(
     alloc: Global,
     image: &Image,
-    found: &AllFaults,
+    faults: &[VolumeFault],
     unread: &[bool],
 ) -> Result<Vec<u8>, AllocError>
-    requires { AreFound image.now found.now }
-    ensures { IfOk result (λ letters. AllZip (HasLetter image.now unread.now found.now.more) (range_with_len 0 (block_count image.now)) letters.items) }
+    requires { AreFound image.now faults.now }
+    ensures { IfOk result (λ letters. AllZip (HasLetter image.now unread.now) (range_with_len 0 (block_count image.now)) letters.items) }
 {
     let census = take_census(alloc, image)?;
     let reached = reached_blocks(alloc, image)?;
     let mut letters = Vec::new(alloc);
     for block in 0..image.blocks() {
         let places = places_of(alloc, &census, &reached, block)?;
-        let mark = mark_of(image, found, block, &places);
+        let mark = mark_of(image, faults, block, &places);
         letters.push(shown_letter(unread, block as usize, mark))?;
     }
     Ok(letters)
 }
 
 /// What a block is, by all places that name it and by the faults of the image.
-fn mark_of(image: &Image, found: &AllFaults, block: u32, places: &[Place]) -> BlockMark
+fn mark_of(image: &Image, faults: &[VolumeFault], block: u32, places: &[Place]) -> BlockMark
     requires inside { block < block_count image.now }
-    requires found { AreFound image.now found.now }
+    requires found { AreFound image.now faults.now }
     requires places { AreAllPlaces image.now block places.now }
-    ensures { HasMark image.now found.now.more block result }
+    ensures { HasMark image.now block result }
 {
     if block >= BOOT_BLOCKS && has_two_longs(places) {
         return BlockMark::Twice;
     }
-    if shows_fault(found, block) {
+    if shows_fault(faults, block) {
         return BlockMark::Faulty;
     }
     plain_mark(image, block, places)
@@ -157,15 +158,14 @@ fn faulty_text(
     alloc: Global,
     reason: FaultReason,
     form: MapForm,
-    more: bool,
     letters: &[u8],
     unread: &[bool],
 ) -> Result<Vec<u8>, AllocError>
-    ensures { IfOk result (λ text. text.items ≡ faulty_map_of form unread.now reason.kind.now reason.block more letters.now) }
+    ensures { IfOk result (λ text. text.items ≡ faulty_map_of form unread.now reason.kind.now reason.block letters.now) }
 {
     match form {
-        MapForm::Json => faulty_map_object(alloc, reason, more, letters),
-        _ => faulty_page(alloc, reason, form, more, letters, unread),
+        MapForm::Json => faulty_map_object(alloc, reason, letters),
+        _ => faulty_page(alloc, reason, form, letters, unread),
     }
 }
 
@@ -174,17 +174,13 @@ fn faulty_page(
     alloc: Global,
     reason: FaultReason,
     form: MapForm,
-    more: bool,
     letters: &[u8],
     unread: &[bool],
 ) -> Result<Vec<u8>, AllocError>
-    ensures { IfOk result (λ text. text.items ≡ refused_line reason.kind.now reason.block ++ (map_page form true unread.now letters.now ++ more_text more)) }
+    ensures { IfOk result (λ text. text.items ≡ refused_line reason.kind.now reason.block ++ map_page form true unread.now letters.now) }
 {
     let mut text = refused_text(alloc, reason, false)?;
     let page = map_page(alloc, letters, form, true, unread)?;
     text.extend_from_slice(&page)?;
-    if more {
-        text.extend_from_slice(b"more\n")?;
-    }
     Ok(text)
 }

@@ -51,7 +51,7 @@ fn put_tail(writer: &mut Writer, told: &FaultyBlock<'_>) -> Result<(), AllocErro
     writer.end_array()?;
     writer.key("faults")?;
     put_array(writer, 0, told.faults)?;
-    put_flag(writer, "more", told.more)?;
+    put_flag(writer, "more", false)?;
     put_unread(writer, told.unread)?;
     writer.end_object()
 }

@@ -20,8 +20,8 @@ use std::io::Write;
 /// in any image: lines, or with `json` an object on a line of its own.
 ///
 /// If an argument names no block, nothing is written. If the writer fails or memory runs out, a prefix of the text is written.
-/// Memory holds the places that name each block once, and not the text; before that, the census of the image. Time grows almost
-/// linearly with the size of the image, the number of blocks and the length of the text.
+/// Memory holds the places that name each block once, and not the text; before that, the census of the image. Time is that of all
+/// faults (`faults_of_any_disk`), and grows almost linearly with the number of blocks and the length of the text.
 pub fn write_faulty_where<W: Write>(
     alloc: Global,
     image: &Image,
@@ -40,7 +40,7 @@ pub fn write_faulty_where<W: Write>(
     };
     let found = faults_of_any_disk(alloc, image)?;
     let asked = AskedBlocks::of(alloc, image, &blocks)?;
-    let told = faulty_blocks(alloc, image, &asked, &found, asking.unread, &blocks)?;
+    let told = faulty_blocks(alloc, image, &asked, &found.faults, asking.unread, &blocks)?;
     let front = refused_front(alloc, reason, asking.json)?;
     match write_faulty(alloc, count, &told, asking.json, &front, writer) {
         Ok(()) => Ok(()),

@@ -34,16 +34,15 @@ pub(crate) fn map_object(
 pub(crate) fn faulty_map_object(
     alloc: Global,
     reason: FaultReason,
-    more: bool,
     marks: &[u8],
 ) -> Result<Vec<u8>, AllocError>
-    ensures { IfOk result (λ text. text.items ≡ print (faulty_map_tokens reason.kind.now reason.block more (letters marks.now)) ++ codes "\n") }
+    ensures { IfOk result (λ text. text.items ≡ print (faulty_map_tokens reason.kind.now reason.block (letters marks.now)) ++ codes "\n") }
 {
     let marks = letter_text(alloc, marks)?;
     let mut writer = begin_refused(alloc)?;
     put_fault_reason(&mut writer, reason)?;
     put_text(&mut writer, "map", Some(marks.as_str()))?;
-    put_flag(&mut writer, "more", more)?;
+    put_flag(&mut writer, "more", false)?;
     end_refused(writer)
 }
 

@@ -1,5 +1,5 @@
 -- The data blocks of a file, by the blocks whose pointers name them.
-use Rattle.ados_faults.proofs.Common.{flat_map, ◌≡◌, ◌≢◌, ℕ, ◌+◌, ◌-◌, ◌*◌, ◌^◌, ◌<◌, ◌≤◌, min, ◌==◌, inl, inr, Bool, true, false, List, [], ◌∷◌, ◌++◌, length, take, drop, slice_index, get_or, replicate, set, Option, Some, None, refl, sym, ap, ◌∙◌, subst, arith, length-set, get_or-set_same, get_or-set_other, flat_map-append, sum_by-append, All, slice_get, is_some, cases_eq, cases_lt, eqb-false, eqb-true, false≢true, le-ltb, lt-leb, lt-ltb, or_cases, or_parts, append-nil, drop_more, get_or_append_left, get_or-append-add, get_or_default, get_or_push, take_more, length-append, length-replicate, length_push, take-append-drop, All-append, get_or_from_slice_get, none-some, same_Some, slice_get-get_or, slice_get_within, block_count, held_count, pointer, pointer_count, sequence_number, BadSequence, InImage, pointers_of, BreaksRule, kind_of_data, Sequence, AreHeaders, IsPiece, first_in, next_in, AreAllSeen, AreHeld, ArePlacesNoted, IsHeaderSeen, IsHeld, IsOneNoted, IsPieceNoted, IsPlaceNoted, is_known, AreStillNoted, cell_of, IsNoted, DataRule, Piece}
+use Rattle.ados_faults.proofs.Common.{flat_map, ◌≡◌, ◌≢◌, ℕ, ◌+◌, ◌-◌, ◌*◌, ◌^◌, ◌<◌, ◌≤◌, min, ◌==◌, inl, inr, Bool, true, false, List, [], ◌∷◌, ◌++◌, length, take, drop, slice_index, get_or, replicate, set, Option, Some, None, refl, sym, ap, ◌∙◌, subst, arith, length-set, get_or-set_same, get_or-set_other, flat_map-append, sum_by-append, All, slice_get, is_some, cases_eq, cases_lt, eqb-false, eqb-true, false≢true, le-ltb, lt-leb, lt-ltb, or_cases, or_parts, append-nil, drop_more, get_or_append_left, get_or-append-add, get_or_default, get_or_push, take_more, length-append, length-replicate, length_push, take-append-drop, All-append, get_or_from_slice_get, none-some, same_Some, slice_get-get_or, slice_get_within, block_count, held_count, pointer, pointer_count, sequence_number, BadSequence, InImage, pointers_of, BreaksRule, kind_of_data, Sequence, AreHeaders, IsPiece, first_in, next_in, AreAllSeen, AreHeld, ArePlacesNoted, HasBehind, IsHeaderSeen, IsHeld, IsOneNoted, IsPieceNoted, IsPlaceNoted, is_known, AreStillNoted, cell_of, IsNoted, DataRule, Piece}
 use Rattle.ados_model.proofs.FileBlocks.{first_pointers-at, length-first_pointers}
 use Rattle.ados_check.proofs.Pointers.{pointers_are}
 use Rattle.ados_faults.specs.declared.pieces.Seen.{Seen}
@@ -22,7 +22,7 @@ pointer_at image block i l = elim (cases_lt 72 (pointer_count image block)) [
       ap (λ (xs : List ℕ). slice_index xs i) (pointers_are image block few) ∙ first_pointers-at image block (pointer_count image block) i (omega (arith, l, pointers_few image block few))
 ]
 
-pointers_at_most : (image : List ℕ) (block : ℕ) → length (pointers_of image block) ≤ 72
+pub pointers_at_most : (image : List ℕ) (block : ℕ) → length (pointers_of image block) ≤ 72
 pointers_at_most image block = elim (cases_lt 72 (pointer_count image block)) [
   | inl many ↦ omega (arith, pointers_none image block many)
   | inr few ↦ omega (arith, few, pointers_few image block few)
@@ -72,7 +72,7 @@ module _ (image : List ℕ) (headers : List ℕ) (k : ℕ) (l : k < length heade
 pub held_nil : (image : List ℕ) → IsHeld image [] (Some 0)
 held_nil image = (λ k d l. absurd (omega (arith, l)), refl)
 
-held_append : (image : List ℕ) (xs ys : List ℕ) (a b : ℕ) → IsHeld image xs (Some a) → IsHeld image ys (Some b) → IsHeld image (xs ++ ys) (Some (min (a + b) (2 ^ 64 - 1)))
+pub held_append : (image : List ℕ) (xs ys : List ℕ) (a b : ℕ) → IsHeld image xs (Some a) → IsHeld image ys (Some b) → IsHeld image (xs ++ ys) (Some (min (a + b) (2 ^ 64 - 1)))
 held_append image xs ys a b x y = (
   All-append (InImage image) xs ys x.0 y.0,
   omega (arith, x.1, y.1, sum_by-append (held_count image) xs ys),
@@ -195,17 +195,22 @@ piece_of image headers k piece a l is inside count few position low behind = rec
 -- ---- what is known of a block that was seen
 
 module _ (image : List ℕ) (cells later : List Bool) (on : AreStillNoted cells later) where
+  pub one_on : (piece : Piece) (i : ℕ) → IsOneNoted image cells piece i → IsOneNoted image later piece i
+  one_on piece i n inside = placed_on image cells later on (slice_index (pointers_of image piece.header) i) (piece.position + i) (next_in image piece i) (n inside)
+
+  piece_on : (piece : Piece) → IsPieceNoted image cells piece → IsPieceNoted image later piece
+  piece_on piece n = record { placed = λ i l. one_on piece i (n.placed i l) }
+
   pub header_on : (header : ℕ) (seen : Seen) → IsHeaderSeen image cells header seen → IsHeaderSeen image later header seen
   header_on header seen h = record {
-    placed = λ i l inside. placed_on image cells later on (slice_index (pointers_of image header) i) (seen.position + i) (Some (slice_index (pointers_of image header) (i + 1))) (h.placed i l inside);
+    header_is = h.header_is;
+    count = h.count;
+    placed = piece_on seen.piece h.placed;
     settled = λ both i l inside. on.stay (cell_of BadSequence (slice_index (pointers_of image header) i)) (h.settled both i l inside);
   }
 
   pub all_seen_on : (seen : List (Option Seen)) → AreAllSeen image cells seen → AreAllSeen image later seen
   all_seen_on seen a = record { size = a.size; each = λ header s e. header_on header s (a.each header s e) }
-
-  pub one_on : (piece : Piece) (i : ℕ) → IsOneNoted image cells piece i → IsOneNoted image later piece i
-  one_on piece i n inside = placed_on image cells later on (slice_index (pointers_of image piece.header) i) (piece.position + i) (next_in image piece i) (n inside)
 
   -- one more block was seen
   pub all_seen_more : (seen : List (Option Seen)) (header : ℕ) (new : Seen) → AreAllSeen image cells seen → header < length seen → IsHeaderSeen image later header new → AreAllSeen image later (set seen header (Some new))
@@ -232,33 +237,37 @@ module _ (image : List ℕ) (cells later : List Bool) (on : AreStillNoted cells 
       ]
 
 -- a block whose data blocks were all checked at one position
-pub seen_once : (image : List ℕ) (cells : List Bool) (piece : Piece) → IsPiece image piece → IsPieceNoted image cells piece → IsHeaderSeen image cells piece.header (record { position = piece.position; is_settled = false })
-seen_once image cells piece p n = record {
-  placed = λ i l inside.
-      let m : i + 1 < piece.count = omega (arith, l, p.count) in
-      subst (IsPlaceNoted image cells (slice_index (pointers_of image piece.header) i) (piece.position + i)) (next_of_inner image piece i m) (n.placed i (omega (arith, m)) inside);
-  settled = λ e. absurd (false≢true e);
-}
+pub seen_once : (image : List ℕ) (cells : List Bool) (piece : Piece) → IsPiece image piece → IsPieceNoted image cells piece → IsHeaderSeen image cells piece.header (record { piece = piece; is_settled = false })
+seen_once image cells piece p n = record { header_is = refl; count = p.count; placed = n; settled = λ e. absurd (false≢true e) }
+
+-- what one shows that was checked with them
+one_of : (image : List ℕ) (cells : List Bool) (header : ℕ) (seen : Seen) → IsHeaderSeen image cells header seen → (i : ℕ) → i < length (pointers_of image header) → InImage image (slice_index (pointers_of image header) i)
+    → IsPlaceNoted image cells (slice_index (pointers_of image header) i) (seen.piece.position + i) (next_in image seen.piece i)
+one_of image cells header seen h i l inside =
+    subst (λ (b : ℕ). InImage image (slice_index (pointers_of image b) i) → IsPlaceNoted image cells (slice_index (pointers_of image b) i) (seen.piece.position + i) (next_in image seen.piece i)) h.header_is
+    (h.placed.placed i (omega (arith, l, h.count))) inside
 
 -- and now at another one
 pub seen_again : (image : List ℕ) (cells later : List Bool) (piece : Piece) (seen : Seen) → AreStillNoted cells later → IsPiece image piece → IsPieceNoted image later piece → IsHeaderSeen image cells piece.header seen
-    → seen.position ≢ piece.position → IsHeaderSeen image later piece.header (record { position = piece.position; is_settled = true })
+    → seen.piece.position ≢ piece.position → IsHeaderSeen image later piece.header (record { piece = piece; is_settled = true })
 seen_again image cells later piece seen on p n old apart = record {
-  placed = λ i l inside. (seen_once image later piece p n).placed i l inside;
+  header_is = refl;
+  count = p.count;
+  placed = n;
   settled = λ both i l inside.
       let m : i < piece.count = omega (arith, l, p.count) in
       let block = slice_index (pointers_of image piece.header) i in
       elim (cases_eq (sequence_number image block) (piece.position + i + 1)) [
         | inr ne ↦ (n.placed i m inside).each Sequence ne
-        | inl is ↦ on.stay (cell_of BadSequence block) ((old.placed i l inside).each Sequence (λ e. apart (other i (sym e ∙ is))))
+        | inl is ↦ on.stay (cell_of BadSequence block) ((one_of image cells piece.header seen old i l inside).each Sequence (λ e. apart (other i (sym e ∙ is))))
       ];
 }
   where
-    other : (i : ℕ) → seen.position + i + 1 ≡ piece.position + i + 1 → seen.position ≡ piece.position
+    other : (i : ℕ) → seen.piece.position + i + 1 ≡ piece.position + i + 1 → seen.piece.position ≡ piece.position
     other i e = omega (arith, e)
 
 -- only the sequence number depends on the position
-placed_again : (image : List ℕ) (cells later : List Bool) (block old position : ℕ) (next : Option ℕ) → AreStillNoted cells later → IsPlaceNoted image cells block old next
+pub placed_again : (image : List ℕ) (cells later : List Bool) (block old position : ℕ) (next : Option ℕ) → AreStillNoted cells later → IsPlaceNoted image cells block old next
     → (sequence_number image block ≢ position + 1 → IsNoted later (cell_of BadSequence block)) → IsPlaceNoted image later block position next
 placed_again image cells later block old position next on was sequence = record { each = go }
   where
@@ -266,31 +275,46 @@ placed_again image cells later block old position next on was sequence = record 
     go Sequence h = sequence h
     go rule h = on.stay (cell_of (kind_of_data rule) block) (was.each rule h)
 
--- at a position where only the last one needed a look
-pub seen_before : (image : List ℕ) (cells later : List Bool) (piece : Piece) (seen : Seen) → AreStillNoted cells later → IsPiece image piece → 0 < piece.count → IsHeaderSeen image cells piece.header seen
-    → is_known (Some seen) piece.position ≡ true → IsOneNoted image later piece (piece.count - 1) → IsPieceNoted image later piece
-seen_before image cells later piece seen on p some old known last = record { placed = go }
-  where
-    at_position : (i : ℕ) → seen.position ≡ piece.position → sequence_number image (slice_index (pointers_of image piece.header) i) ≢ piece.position + i + 1
-        → sequence_number image (slice_index (pointers_of image piece.header) i) ≢ seen.position + i + 1
-    at_position i e ne z = ne (z ∙ ap (λ (x : ℕ). x + i + 1) e)
+-- at a position where all but the last one were known
+module _ (image : List ℕ) (cells later : List Bool) (piece : Piece) (seen : Seen) (on : AreStillNoted cells later) (p : IsPiece image piece) (old : IsHeaderSeen image cells piece.header seen) (known : is_known (Some seen) piece.position ≡ true) where
+  at_position : (i : ℕ) → seen.piece.position ≡ piece.position → sequence_number image (slice_index (pointers_of image piece.header) i) ≢ piece.position + i + 1
+      → sequence_number image (slice_index (pointers_of image piece.header) i) ≢ seen.piece.position + i + 1
+  at_position i e ne z = ne (z ∙ ap (λ (x : ℕ). x + i + 1) e)
 
-    go : (i : ℕ) → i < piece.count → IsOneNoted image later piece i
-    go i l inside = elim (cases_lt (i + 1) piece.count) [
-      | inr end ↦
-          let e : piece.count - 1 ≡ i = omega (arith, l, end, some) in
-          subst (IsOneNoted image later piece) e last inside
-      | inl more ↦
-          let m : i + 1 < length (pointers_of image piece.header) = omega (arith, more, p.count) in
-          let block = slice_index (pointers_of image piece.header) i in
-          let was = old.placed i m inside in
-          subst (IsPlaceNoted image later block (piece.position + i)) (sym (next_of_inner image piece i more))
-          (placed_again image cells later block (seen.position + i) (piece.position + i) (Some (slice_index (pointers_of image piece.header) (i + 1))) on was
-          (λ ne. on.stay (cell_of BadSequence block) (elim (or_cases seen.is_settled (seen.position == piece.position) known) [
-            | inl both ↦ old.settled both i m inside
-            | inr same ↦ was.each Sequence (at_position i (eqb-true seen.position piece.position same) ne)
-          ])))
-    ]
+  -- with the same data block behind it
+  same_next : (i : ℕ) → i < piece.count → next_in image seen.piece i ≡ next_in image piece i → IsOneNoted image later piece i
+  same_next i l next inside =
+      let m : i < length (pointers_of image piece.header) = omega (arith, l, p.count) in
+      let block = slice_index (pointers_of image piece.header) i in
+      let was = one_of image cells piece.header seen old i m inside in
+      placed_again image cells later block (seen.piece.position + i) (piece.position + i) (next_in image piece i) on
+      (subst (IsPlaceNoted image cells block (seen.piece.position + i)) next was)
+      (λ ne. on.stay (cell_of BadSequence block) (elim (or_cases seen.is_settled (seen.piece.position == piece.position) known) [
+        | inl both ↦ old.settled both i m inside
+        | inr same ↦ was.each Sequence (at_position i (eqb-true seen.piece.position piece.position same) ne)
+      ]))
+
+  same_inner : (i : ℕ) → i + 1 < piece.count → next_in image seen.piece i ≡ next_in image piece i
+  same_inner i l =
+      next_of_inner image seen.piece i (omega (arith, l, p.count, old.count))
+      ∙ ap (λ (b : ℕ). Some (slice_index (pointers_of image b) (i + 1))) old.header_is ∙ sym (next_of_inner image piece i l)
+
+  pub seen_before : 0 < piece.count → IsOneNoted image later piece (piece.count - 1) → IsPieceNoted image later piece
+  seen_before some last = record {
+    placed = λ i l. elim (cases_lt (i + 1) piece.count) [
+      | inr end ↦ let e : piece.count - 1 ≡ i = omega (arith, l, end, some) in subst (IsOneNoted image later piece) e last
+      | inl more ↦ same_next i l (same_inner i more)
+    ];
+  }
+
+  -- and the last one too
+  pub seen_all : seen.piece.behind ≡ piece.behind → IsPieceNoted image later piece
+  seen_all behind = record {
+    placed = λ i l. same_next i l (elim (cases_lt (i + 1) piece.count) [
+      | inr end ↦ next_of_last image seen.piece i (omega (arith, end, p.count, old.count)) ∙ behind ∙ sym (next_of_last image piece i end)
+      | inl more ↦ same_inner i more
+    ]);
+  }
 
 -- no block was seen
 pub none_seen : (image : List ℕ) (cells : List Bool) (seen : List (Option Seen)) → seen ≡ replicate (block_count image) None → AreAllSeen image cells seen
@@ -303,17 +327,23 @@ none_seen image cells seen none = record {
 pub known_piece : (image : List ℕ) (cells later : List Bool) (piece : Piece) (seen : List (Option Seen)) (o : Option Seen) → AreStillNoted cells later → IsPiece image piece → 0 < piece.count → AreAllSeen image cells seen
     → slice_get seen piece.header ≡ Some o → is_known o piece.position ≡ true → IsOneNoted image later piece (piece.count - 1) → IsPieceNoted image later piece
 known_piece image cells later piece seen None on p some a at known last = absurd (false≢true known)
-known_piece image cells later piece seen (Some s) on p some a at known last = seen_before image cells later piece s on p some (a.each piece.header s at) known last
+known_piece image cells later piece seen (Some s) on p some a at known last = seen_before image cells later piece s on p (a.each piece.header s at) known some last
+
+-- where no look is needed
+pub settled_piece : (image : List ℕ) (cells : List Bool) (piece : Piece) (seen : List (Option Seen)) (o : Option Seen) → IsPiece image piece → AreAllSeen image cells seen
+    → slice_get seen piece.header ≡ Some o → is_known o piece.position ≡ true → HasBehind o piece.behind → IsPieceNoted image cells piece
+settled_piece image cells piece seen o p a at known (s, is, behind) =
+    seen_all image cells cells piece s (record { stay = λ cell e. e }) p (a.each piece.header s (at ∙ ap (λ (x : Option Seen). Some x) is)) (ap (λ (x : Option Seen). is_known x piece.position) (sym is) ∙ known) behind
 
 -- where all were checked
 pub seen_now : (image : List ℕ) (cells later : List Bool) (piece : Piece) (seen : List (Option Seen)) (o : Option Seen) (settled : Bool) → AreStillNoted cells later → IsPiece image piece → AreAllSeen image cells seen
     → slice_get seen piece.header ≡ Some o → is_known o piece.position ≡ false → settled ≡ is_some o → IsPieceNoted image later piece
-    → IsHeaderSeen image later piece.header (record { position = piece.position; is_settled = settled })
+    → IsHeaderSeen image later piece.header (record { piece = piece; is_settled = settled })
 seen_now image cells later piece seen None settled on p a at known is n =
-    subst (λ (b : Bool). IsHeaderSeen image later piece.header (record { position = piece.position; is_settled = b })) (sym is) (seen_once image later piece p n)
+    subst (λ (b : Bool). IsHeaderSeen image later piece.header (record { piece = piece; is_settled = b })) (sym is) (seen_once image later piece p n)
 seen_now image cells later piece seen (Some s) settled on p a at known is n =
-    let apart = eqb-false s.position piece.position (or_parts s.is_settled (s.position == piece.position) known).1 in
-    subst (λ (b : Bool). IsHeaderSeen image later piece.header (record { position = piece.position; is_settled = b })) (sym is)
+    let apart = eqb-false s.piece.position piece.position (or_parts s.is_settled (s.piece.position == piece.position) known).1 in
+    subst (λ (b : Bool). IsHeaderSeen image later piece.header (record { piece = piece; is_settled = b })) (sym is)
     (seen_again image cells later piece s on p n (a.each piece.header s at) apart)
 
 pub first_pointer : (image : List ℕ) (piece : Piece) → IsPiece image piece → 0 < piece.count → first_in image piece ≡ Some (pointer image piece.header 0)

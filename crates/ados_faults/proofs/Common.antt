@@ -22,7 +22,7 @@ pub use Rattle.ados_check.specs.declared.mark.Mark.{Mark}
 pub use Rattle.ados_check.specs.declared.rules.FieldRule.{FieldRule}
 pub use Rattle.ados_check.specs.declared.rules.FieldRule.TheVariants.{Chain, Comment, FirstData, Name, NoLink, OwnKey, Parent, PointerCount}
 pub use Rattle.ados_check.specs.declared.rules.TheConstants.{FIELD_RULES, POINTER_RULES}
-pub use Rattle.ados_faults.specs.Listed.{AreClosed, AreFirstFaults, IsMarked, IsNamedAs, IsOtherKind, IsTangled, ListsFaults, Marks, ShowsMoreThan, ShowsOtherKind, StandsBefore, TellsMore, fault_of, rank, root_mark}
+pub use Rattle.ados_faults.specs.Listed.{AreClosed, AreFirstFaults, IsMarked, IsNamedAs, IsOtherKind, ListsFaults, Marks, ShowsMoreThan, ShowsOtherKind, StandsBefore, fault_of, rank, root_mark}
 pub use Rattle.ados_faults.specs.Values.{AreValues, BreaksData, BreaksField, FirstOf, HasFields, IsAPlace, IsCountEvidence, IsEvidenceOf, IsFirstOut, IsPointerEvidence, IsSequenceEvidence, IsSizeEvidence, IsTheEvidence, LeadsOut, NoneShows, ShowsDisk, data_place, extensions_to, is_extension, position_of}
 pub use Rattle.ados_faults.specs.declared.names.Named.{Named}
 pub use Rattle.ados_faults.specs.declared.pieces.Piece.{Piece}
@@ -30,16 +30,16 @@ pub use Rattle.ados_faults.specs.declared.roles.Part.{Part}
 pub use Rattle.ados_faults.specs.declared.roles.Part.TheVariants.{Bitmap, DataFile, Directory, ExtensionFile, Slot}
 pub use Rattle.ados_faults.specs.declared.roles.Taken.{Taken}
 pub use Rattle.ados_faults.specs.declared.roles.Taken.TheVariants.{Nothing, One, Two}
-pub use Rattle.ados_faults.specs.declared.tangled.StepKey.{StepKey}
 pub use Rattle.ados_faults.specs.declared.walk.Step.{Step}
 pub use Rattle.ados_faults.specs.steps.Blocks.{AreEntriesOf, AreMet, AreNextMet, AreSlotsMet, AreTypesMet, HasTypeAs, HoldsEntries, IsEntryIn, IsGrown, IsOfType}
 pub use Rattle.ados_faults.specs.steps.Chain.{AreHeaders, IsChain, IsPiece, first_in, next_in}
-pub use Rattle.ados_faults.specs.steps.FileNotes.{AreAllFilesNoted, AreAllSeen, AreBlocksNoted, AreHeld, ArePlacesNoted, IsFileNoted, IsHeaderSeen, IsHeld, IsOneNoted, IsPieceNoted, IsPlaceNoted, IsRuleNoted, is_known}
+pub use Rattle.ados_faults.specs.steps.FileNotes.{AreAllFilesNoted, AreAllSeen, AreBlocksNoted, AreHeld, ArePlacesNoted, HasBehind, IsFileNoted, IsHeaderSeen, IsHeld, IsOneNoted, IsPieceNoted, IsPlaceNoted, IsRuleNoted, is_known}
+pub use Rattle.ados_faults.specs.steps.Longs.{AreLongs, AreOfEach, AreTabled}
 pub use Rattle.ados_faults.specs.steps.Looks.{AreLookedAt, AreWrongsNoted, IsFieldNoted, IsLookedAt}
-pub use Rattle.ados_faults.specs.steps.Named.{AreDuplicatesNoted, AreFirstMet, AreFirstNames, AreKnown, AreNamesKept, AreNamesMet, AreNamesNoted, AreStillKnown, HasNameOf, IsFirstName, IsNameMet, name_cmp, named_in, named_of}
+pub use Rattle.ados_faults.specs.steps.Named.{AreDuplicatesNoted, AreFirstMet, AreFirstNames, AreKnown, AreListedNoted, AreNamesKept, AreNamesMet, AreNamesNoted, AreStillKnown, HasNameOf, IsFirstName, IsNameMet, name_cmp, named_in, named_of}
 pub use Rattle.ados_faults.specs.steps.Noted.{AreListed, AreNoted, AreStillNoted, IsFull, IsNoted, ListsNoted, cell_at, cell_of}
-pub use Rattle.ados_faults.specs.steps.Pairs.{ArePairs, key_cmp, key_for}
 pub use Rattle.ados_faults.specs.steps.Roles.{AreBacked, AreCovered, AreCoveredBy, HasNumber, HasTwo, IsBacked, IsCovered, IsListed, lacks, number_of, part_rank, root_step, step_of, taken_at, with_number}
+pub use Rattle.ados_faults.specs.steps.Tails.{ArePlacedAt, AreSettled, AreTails, IsAlong, IsAlongFile, IsFront, IsTail, LeadsTo, is_known_at, is_settled_at}
 pub use Rattle.ados_faults.specs.steps.Walked.{AreKept, AreOutsideNoted, AreTwiceNoted, AreVisited, IsMarkedBy, IsMarkedFree, IsMet, IsMetBy, IsPassed, IsStep, IsVisited, IsWalked}
 pub use Rattle.ados_model.proofs.KeyLists.{Contains-here, Contains-later, Contains-nil, length-once}
 pub use Rattle.ados_model.specs.Faults.{AreDataBlocks, FurtherAreInside, HasDuplicateName, HasName, HasShortName, HasSum, InImage, IsDataAt, IsFile, IsOfs, IsPlace, IsUsedTwice, LeadOn, LeadsInside, LinkedOnce, PlaceNames, Reached, Shows, count_of_size, last_link, pointers_of, root_of}

@@ -159,8 +159,9 @@ next_more image blocks later n entry is within m grown this = record { met = go 
 same_dir : (x y s t : ℕ) → Entry x s ≡ Entry y t → x ≡ y
 same_dir x y s t e = cc e
 
-pub all_entries : (image : List ℕ) (dir : ℕ) (blocks : List ℕ) (n : ℕ) → All (IsEntryIn image dir) blocks → AreSlotsMet image dir blocks 72 → AreNextMet image blocks n → length blocks ≤ n → AreEntriesOf image dir blocks
-all_entries image dir blocks n entries slots next all = record { entries = entries; each = λ block s h. complete h s refl }
+-- a list with the first entry of each chain, and with each next one, has all entries of a directory
+pub each_entry : (image : List ℕ) (dir : ℕ) (blocks : List ℕ) (n : ℕ) → AreSlotsMet image dir blocks 72 → AreNextMet image blocks n → length blocks ≤ n → (block s : ℕ) → Reached image block (Entry dir s) → Contains blocks block
+each_entry image dir blocks n slots next all block s h = complete h s refl
   where
     here : (h t : ℕ) → h ≡ dir → t < 72 → LeadsInside image h (FIRST_SLOT + t) → Contains blocks (long image h (FIRST_SLOT + t))
     here h t e l inside =
@@ -180,6 +181,9 @@ all_entries image dir blocks n entries slots next all = record { entries = entri
     complete : {block : ℕ} {role : Role} → Reached image block role → (s : ℕ) → role ≡ Entry dir s → Contains blocks block
     complete start s e = absurd (cc e)
     complete (named h place inside) s e = placed place inside (λ t f. complete h t f) s e
+
+pub all_entries : (image : List ℕ) (dir : ℕ) (blocks : List ℕ) (n : ℕ) → All (IsEntryIn image dir) blocks → AreSlotsMet image dir blocks 72 → AreNextMet image blocks n → length blocks ≤ n → AreEntriesOf image dir blocks
+all_entries image dir blocks n entries slots next all = record { entries = entries; each = each_entry image dir blocks n slots next all }
 
 -- what holds an entry is a directory
 pub dir_of : (image : List ℕ) (dir : ℕ) {block : ℕ} {role : Role} → Reached image block role → (s : ℕ) → role ≡ Entry dir s → HoldsEntries image dir

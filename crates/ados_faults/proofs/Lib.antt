@@ -7,8 +7,9 @@ pub mod Doubles
 pub mod Covering
 pub mod Closing
 pub mod Enumerated
-pub mod Pairing
 pub mod Linking
+pub mod ChainParts
+pub mod OfEach
 pub mod Sameness
 pub mod Above
 pub mod Evident
@@ -19,5 +20,8 @@ pub mod Each
 pub mod SameBlocks
 pub mod FileNotes
 pub mod ByHeaders
-pub mod Rooted
+pub mod TailNotes
+pub mod Fronts
+pub mod Along
+pub mod FileData
 pub mod Searching

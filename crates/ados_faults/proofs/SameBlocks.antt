@@ -24,7 +24,7 @@ module _ (image : List ℕ) (link first : ℕ) where
       y.once back.0 (length xs) 0 back.1 l
       (sym (agree xs ys x y back.0 back.1 (omega (arith, back.1, l))) ∙ get_or_default xs back.0 0 (last_link image link xs) back.1 ∙ back.2 ∙ next)
 
-  same_links : (xs ys : List ℕ) → LinkedOnce image link first xs → LinkedOnce image link first ys → xs ≡ ys
+  pub same_links : (xs ys : List ℕ) → LinkedOnce image link first xs → LinkedOnce image link first ys → xs ≡ ys
   same_links xs ys x y = elim (cases_order (length xs) (length ys)) [
     | inl e ↦ same_lists xs ys e (λ k d l. sym (at xs k d l) ∙ agree xs ys x y k l (omega (arith, l, e)) ∙ at ys k d (omega (arith, l, e)))
     | inr (inl l) ↦ absurd (not_shorter xs ys x y l)

@@ -1,10 +1,10 @@
 -- Entries of one directory whose names are equal in upper case have the same name, and are noted.
-use Rattle.ados_faults.proofs.Common.{◌≡◌, ◌≢◌, ℕ, ◌-◌, ◌<◌, ◌≤◌, inl, inr, Bool, true, cond, List, [], ◌∷◌, ◌++◌, length, take, drop, map, replicate, get_or, slice_index, set, Option, Some, None, refl, sym, ap, ◌∙◌, subst, arith, ◌+◌, length-set, get_or-set_same, get_or-set_other, slice_get, option_and_then, BTreeMap, get, is_at, cases_Bool, cases_eq, cases_lt, get_or_from_slice_get, none-some, same_Some, slice_get-get_or, slice_get_past, slice_get_within, get_or_append_left, get_or_push, length-map, length-replicate, length_push, take_at, IsImage, text_at, block_count, byte_at, DIRECTORY_TYPE, NAME_BYTE, Entry, DuplicateName, HasDuplicateName, HasShortName, Reached, AreEntriesOf, HoldsEntries, IsEntryIn, IsOfType, AreDuplicatesNoted, AreFirstMet, AreFirstNames, AreKnown, AreNamesKept, AreNamesMet, AreNamesNoted, AreStillKnown, HasNameOf, IsFirstName, IsNameMet, name_cmp, named_in, named_of, AreStillNoted, IsNoted, cell_of, Same, upper, upper_name, Named}
+use Rattle.ados_faults.proofs.Common.{◌≡◌, ◌≢◌, ℕ, ◌-◌, ◌<◌, ◌≤◌, inl, inr, Bool, true, cond, List, [], ◌∷◌, ◌++◌, length, take, drop, map, replicate, get_or, slice_index, set, Option, Some, None, refl, sym, ap, ◌∙◌, subst, arith, ◌+◌, length-set, get_or-set_same, get_or-set_other, slice_get, option_and_then, BTreeMap, get, is_at, cases_Bool, cases_eq, cases_lt, get_or_from_slice_get, none-some, same_Some, slice_get-get_or, slice_get_past, slice_get_within, get_or_append_left, get_or_push, length-map, length-replicate, length_push, take_at, IsImage, text_at, block_count, byte_at, DIRECTORY_TYPE, NAME_BYTE, Entry, DuplicateName, HasDuplicateName, HasShortName, Reached, AreEntriesOf, HoldsEntries, IsEntryIn, IsOfType, AreDuplicatesNoted, AreFirstMet, AreFirstNames, AreKnown, AreNamesKept, AreNamesMet, AreNamesNoted, AreStillKnown, HasNameOf, IsFirstName, IsNameMet, name_cmp, named_in, named_of, AreStillNoted, IsNoted, cell_of, Same, upper, upper_name, Named, AreListedNoted, AreNextMet, AreSlotsMet, Contains}
 use Rattle.std.specs.FinMap.{nat_cmp-IsAntisymmetric, slice_cmp-IsAntisymmetric}
 use Rattle.std.specs.Map.{lookup}
 use Rattle.ados_check.proofs.Entered.{is_equal}
 use Rattle.ados_check.proofs.Texts.{length-bytes_at}
-use Rattle.ados_faults.proofs.Enumerated.{dir_of}
+use Rattle.ados_faults.proofs.Enumerated.{dir_of, each_entry}
 use Rattle.ados_faults.proofs.Firsts.{one_more, same_there}
 use Rattle.ados_faults.proofs.Insides.{reached_inside}
 
@@ -267,3 +267,32 @@ all_duplicates image cells each = record {
     typed : (dir : ℕ) → HoldsEntries image dir → IsOfType image DIRECTORY_TYPE dir
     typed dir (inl root) = inl (root, refl)
     typed dir (inr e) = inr (e.dir, e.slot_of_chain, e.reached, e.secondary)
+
+-- ---- entries of several directories
+
+pub listed_none : (image : List ℕ) (cells : List Bool) (blocks : List ℕ) → blocks ≡ [] → AreListedNoted image cells blocks
+listed_none image cells blocks none = record {
+  closed = record { met = λ k l m. absurd (omega (arith, m, ap length none)) };
+  noted = λ block other c. absurd (omega (arith, c.1, ap length none));
+}
+
+pub listed_on : (image : List ℕ) (cells later : List Bool) (blocks : List ℕ) → AreStillNoted cells later → AreListedNoted image cells blocks → AreListedNoted image later blocks
+listed_on image cells later blocks on l = record { closed = l.closed; noted = λ block other c d short also same apart. on.stay _ (l.noted block other c d short also same apart) }
+
+-- those of a directory that was gone through
+pub listed_noted : (image : List ℕ) (cells : List Bool) (dir : ℕ) (blocks : List ℕ) → AreEntriesOf image dir blocks → AreNextMet image blocks (length blocks) → AreNamesNoted image cells dir → AreListedNoted image cells blocks
+listed_noted image cells dir blocks e closed names = record {
+  closed = closed;
+  noted = λ block other c d short also same apart.
+      let one : IsEntryIn image dir block = subst (IsEntryIn image dir) c.2 (e.entries c.0 block c.1) in
+      let two : IsEntryIn image dir other = subst (IsEntryIn image dir) d.2 (e.entries d.0 other d.1) in
+      names.noted block other one.0 two.0 one.1 two.1 short also same apart;
+}
+
+-- a directory whose chains all start among them has no others
+pub names_of_listed : (image : List ℕ) (cells : List Bool) (dir : ℕ) (blocks : List ℕ) → AreListedNoted image cells blocks → AreSlotsMet image dir blocks 72 → AreNamesNoted image cells dir
+names_of_listed image cells dir blocks l slots = record {
+  noted = λ block other s t one two short also same apart.
+      let each = each_entry image dir blocks (length blocks) slots l.closed (omega arith) in
+      l.noted block other (each block s one) (each other t two) short also same apart;
+}

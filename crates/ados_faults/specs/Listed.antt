@@ -1,5 +1,5 @@
 -- Faults of an image, in order, and the marks of its blocks.
-use Rattle.std.specs.Prelude.{◌≡◌, ◌≢◌, ℕ, ◌*◌, ◌<◌, ◌≤◌, ◌⊎◌, ◌↔◌, Bool, true, false, List, [], ◌∷◌, length, All, AllPairs, Contains, Option, Some}
+use Rattle.std.specs.Prelude.{◌≡◌, ℕ, ◌<◌, ◌≤◌, ◌⊎◌, ◌↔◌, Bool, true, false, List, [], ◌∷◌, length, All, AllPairs, Contains, Option, Some}
 use Rattle.adf_block.specs.Image.{block_count, long}
 use Rattle.ados_check.specs.Marks.{mark_at}
 use Rattle.ados_check.specs.declared.mark.Mark.{Mark}
@@ -8,7 +8,6 @@ use Rattle.ados_model.specs.declared.fault.FaultKind.TheVariants.{NotADosDisk, U
 use Rattle.ados_model.specs.declared.fault.VolumeFault.{VolumeFault}
 use Rattle.ados_model.specs.declared.role.Role.{Role}
 use Rattle.ados_model.specs.declared.role.Role.TheVariants.{Root}
-use Rattle.ados_faults.specs.declared.walk.Step.{Step}
 use Rattle.ados_model.specs.Faults.{IsPlace, LeadsInside, Reached, Shows, root_of}
 
 -- the number of a kind
@@ -45,9 +44,13 @@ pub record ListsFaults (image : List ℕ) (most : ℕ) (faults : List VolumeFaul
 abbrev pub fault_of : FaultKind → ℕ → VolumeFault
 fault_of kind block = record { kind = kind; block = block }
 
--- each fault that the image shows is in the list, unless there are more
+-- each fault that the image shows is in the list
+abbrev pub ListsAll : List ℕ → List VolumeFault → Type 0
+ListsAll image faults = (kind : FaultKind) (block : ℕ) → Shows image kind block → Contains faults (fault_of kind block)
+
+-- so it is, unless there are more
 abbrev pub ListsEach : List ℕ → Bool → List VolumeFault → Type 0
-ListsEach image more faults = more ≡ false → (kind : FaultKind) (block : ℕ) → Shows image kind block → Contains faults (fault_of kind block)
+ListsEach image more faults = more ≡ false → ListsAll image faults
 
 -- more than this many faults that the image shows, by block and then by kind, each once
 pub record ShowsMoreThan (image : List ℕ) (most : ℕ) : Type 0 where
@@ -55,26 +58,6 @@ pub record ShowsMoreThan (image : List ℕ) (most : ℕ) : Type 0 where
   pub shown : All (λ fault. Shows image fault.kind fault.block) faults
   pub in_order : AllPairs StandsBefore faults
   pub many : most < length faults
-
--- the blocks of the image are reached in at least four times as many roles as the image has blocks
-pub record IsTangled (image : List ℕ) : Type 0 where
-  pub steps : List Step
-  pub reached : All (λ step. Reached image step.block step.role) steps
-  pub once : AllPairs (λ a b. a ≢ b) steps
-  pub many : 4 * block_count image ≤ length steps
-
--- a fault of the root is in the list if the image shows one, and so is each reached block that is marked free
-pub record ListsDoubts (image : List ℕ) (faults : List VolumeFault) : Type 0 where
-  pub root : (kind : FaultKind) → Shows image kind (root_of image) → (other : FaultKind) × Contains faults (fault_of other (root_of image))
-  pub free : (block : ℕ) → Shows image MarkedFree block → Contains faults (fault_of MarkedFree block)
-
--- a fault that is neither a block marked free nor a wrong checksum
-abbrev pub IsOther : VolumeFault → Type 0
-IsOther fault = (fault.kind ≢ MarkedFree) × (fault.kind ≢ BadSum)
-
--- the list has such a fault
-abbrev pub ListsOther : List VolumeFault → Type 0
-ListsOther faults = (fault : VolumeFault) × Contains faults fault × IsOther fault
 
 -- each fault that the image shows is in the list, or stands behind all of the list
 abbrev pub AreTheFirst : List ℕ → List VolumeFault → Type 0
@@ -87,10 +70,6 @@ pub record AreFirstFaults (image : List ℕ) (most : ℕ) (more : Bool) (faults 
   pub first : AreTheFirst image faults
   pub full : more ≡ true → length faults ≡ most
   pub exact : (more ≡ true) ↔ ShowsMoreThan image most
-
--- there are more exactly if the image shows more than so many faults
-abbrev pub TellsMore : List ℕ → ℕ → Bool → Type 0
-TellsMore image most more = (more ≡ true) ↔ ShowsMoreThan image most
 
 -- the image shows by a fault of this kind that it is no DOS disk, or one of an unsupported kind
 pub record IsOtherKind (image : List ℕ) (kind : FaultKind) : Type 0 where
@@ -105,13 +84,12 @@ ShowsOtherKind image = (kind : FaultKind) × IsOtherKind image kind
 abbrev pub ListsKindAlone : List ℕ → Bool → List VolumeFault → Type 0
 ListsKindAlone image more faults = (kind : FaultKind) → IsOtherKind image kind → (faults ≡ fault_of kind 0 ∷ []) × (more ≡ false)
 
--- the faults of a disk as they are told, at most so many: of a disk of another kind that alone; of any other each fault
--- that it shows, unless there are more, and exactly whether there are; and the first ones, unless it is tangled
+-- the faults of a disk as they are told, at most so many: of a disk of another kind that alone; of any other the first ones that it
+-- shows, and exactly whether there are more; each one, if there are not
 pub record AreAllFaults (image : List ℕ) (most : ℕ) (more : Bool) (faults : List VolumeFault) : Type 0 where
   pub alone : ListsKindAlone image more faults
   pub each : ¬ ShowsOtherKind image → ListsEach image more faults
-  pub exact : ¬ ShowsOtherKind image → TellsMore image most more
-  pub first : ¬ ShowsOtherKind image → ¬ IsTangled image → AreFirstFaults image most more faults
+  pub first : ¬ ShowsOtherKind image → AreFirstFaults image most more faults
 
 -- for each block of an image its mark, if it has one
 abbrev pub Marks : Type 0

@@ -1,5 +1,5 @@
 //! Lists of blocks, each once, that are quick to empty.
-ghost use Rattle.std.specs.Prelude.{◌≡◌, ◌∷◌, ◌++◌, [], Contains, IfOk, false, true};
+ghost use Rattle.std.specs.Prelude.{◌≡◌, ◌∷◌, ◌++◌, [], Contains, IfOk, IsTrue, false, true};
 ghost use Rattle.ados_model.specs.Faults.{InImage};
 ghost use Rattle.ados_faults.specs.steps.Blocks.{AreMet, IsGrown};
 
@@ -60,5 +60,13 @@ impl Blocks {
         self.list.push(block)?;
         self.has[block as usize] = true;
         Ok(true)
+    }
+
+    /// Whether a block is in the list, or is not inside the image.
+    pub(crate) fn has(&self, image: &Image, block: u32) -> bool
+        requires { AreMet image.now self.now.has.items self.now.list.items }
+        ensures { IsTrue result → InImage image.now block → Contains self.now.list.items block }
+    {
+        !is_inside(image, block) || self.has[block as usize]
     }
 }

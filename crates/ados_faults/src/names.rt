@@ -1,23 +1,24 @@
 //! The names of the entries: each once in its directory.
-ghost use Rattle.std.specs.Prelude.{◌≡◌, ◌≢◌, ◌↔◌, ◌<◌, ℕ, All, IfOk, IfSome, IsTrue, MatchOption, None, Some, false, length, replicate};
+ghost use Rattle.std.specs.Prelude.{◌≡◌, ◌≢◌, ◌<◌, All, IfOk, None, Some};
 ghost use Rattle.adf_block.specs.Image.{block_count};
 ghost use Rattle.adf_block.specs.Whole.{IsImage};
 ghost use Rattle.ados_check.specs.Entries.{upper_name};
 ghost use Rattle.ados_model.specs.Faults.{HasShortName, InImage};
 ghost use Rattle.ados_model.specs.declared.fault.FaultKind.TheVariants.{DuplicateName};
-ghost use Rattle.ados_faults.specs.steps.Blocks.{AreEntriesOf, AreMet, HoldsEntries, IsEntryIn};
-ghost use Rattle.ados_faults.specs.steps.Named.{AreDuplicatesNoted, AreFirstNames, AreKnown, AreNamesKept, AreNamesMet, AreNamesNoted, AreStillKnown, HasNameOf, IsFirstName, IsNameMet, named_in, named_of};
+ghost use Rattle.ados_faults.specs.steps.Blocks.{AreEntriesOf, IsEntryIn};
+ghost use Rattle.ados_faults.specs.steps.Named.{AreDuplicatesNoted, AreFirstNames, AreKnown, AreNamesKept, AreNamesMet, AreNamesNoted, AreStillKnown, HasNameOf, IsFirstName, IsNameMet};
 ghost use Rattle.ados_faults.specs.steps.Noted.{AreNoted, AreStillNoted, IsNoted, cell_of};
 ghost use Rattle.ados_faults.specs.steps.Roles.{AreCovered};
 ghost use Rattle.ados_faults.specs.steps.Walked.{IsStep};
 
 use crate::blocks::Blocks;
-use crate::entries::list_entries;
+use crate::entries::{list_entries, starts_in};
+use crate::longs::long_of_each;
 use crate::notes::Notes;
 use crate::typed::blocks_of_type;
 use crate::walk::Step;
 use adf_block::Image;
-use adf_block::layout::DIRECTORY_TYPE;
+use adf_block::layout::{DIRECTORY_TYPE, NEXT_IN_CHAIN};
 use ados_check::{Source, UPPER_BYTES, has_short_name, upper_name};
 use ados_model::FaultKind;
 use std::alloc::{AllocError, Global};
@@ -46,13 +47,18 @@ pub(crate) fn note_duplicates(
     ensures whole { IfOk result (λ _. AreDuplicatesNoted image.now notes.new.cells.items) }
 {
     let dirs = blocks_of_type(alloc, image, steps, DIRECTORY_TYPE)?;
+    let nexts = long_of_each(alloc, image, NEXT_IN_CHAIN)?;
     let first = first_names(alloc, image)?;
     // For each first block with a name the entry with this name that was met first in the last directory that has one.
     let mut met = Vec::from_elem(alloc, None, image.blocks() as usize)?;
     // The entries of the last directory.
     let mut entries = Blocks::none(alloc, image)?;
     for dir in &dirs {
-        list_entries(image, *dir, &mut entries)?;
+        // (directories of a damaged image may share long chains)
+        if starts_in(image, *dir, &entries) {
+            continue;
+        }
+        list_entries(image, *dir, &nexts, &mut entries)?;
         note_names(image, *dir, &entries.list, &first, &mut met, notes);
     }
     Ok(())

@@ -1,9 +1,9 @@
 //! The faults found so far: a cell for each kind of fault of each block.
-ghost use Rattle.std.specs.Prelude.{◌≡◌, ◌↔◌, ◌<◌, ◌≤◌, ◌+◌, ◌*◌, false, length, true, IfOk, IsTrue};
+ghost use Rattle.std.specs.Prelude.{◌≡◌, ◌<◌, ◌≤◌, ◌+◌, ◌*◌, false, length, true, IfOk, IsTrue};
 ghost use Rattle.adf_block.specs.Image.{block_count};
 ghost use Rattle.ados_model.specs.Faults.{Shows};
-ghost use Rattle.ados_faults.specs.Listed.{IsOther, ListsFaults};
-ghost use Rattle.ados_faults.specs.steps.Noted.{AreNoted, AreStillNoted, HasNote, IsFull, IsNoted, ListsNoted, NotesOther, cell_of};
+ghost use Rattle.ados_faults.specs.Listed.{ListsFaults};
+ghost use Rattle.ados_faults.specs.steps.Noted.{AreNoted, AreStillNoted, HasNote, IsFull, IsNoted, ListsNoted, cell_of};
 
 use crate::kinds::{KINDS, kind_at, rank_of};
 use adf_block::Image;
@@ -62,19 +62,6 @@ impl Notes {
         self.cells[cell] = true;
     }
 
-    /// Whether a fault is noted that is neither a block marked free nor a wrong checksum.
-    pub(crate) fn has_other(&self, image: &Image) -> bool
-        requires { AreNoted image.now self.now.cells.items }
-        ensures { IsTrue result → NotesOther self.now.cells.items }
-    {
-        for cell in 0..self.cells.len() {
-            if self.cells[cell] && is_other(fault_at(image, cell)) {
-                return true;
-            }
-        }
-        false
-    }
-
     /// All faults.
     pub(crate) fn all(&self, alloc: Global, image: &Image) -> Result<Vec<VolumeFault>, AllocError>
         requires { AreNoted image.now self.now.cells.items }
@@ -113,16 +100,6 @@ impl Notes {
             faults,
             more: false,
         })
-    }
-}
-
-/// Whether a fault is neither a block marked free nor a wrong checksum.
-fn is_other(fault: VolumeFault) -> bool
-    ensures { IsTrue result ↔ IsOther fault }
-{
-    match fault.kind {
-        FaultKind::MarkedFree | FaultKind::BadSum => false,
-        _ => true,
     }
 }
 

@@ -1,20 +1,25 @@
 //! The data blocks of an OFS file, by the header and extension blocks whose pointers name them.
 //!
-//! A header or extension block may belong to many files. All but the last of its data blocks show the same in each of
-//! them, save for their positions: at two positions each shows that its sequence number is wrong. So they are checked at
-//! two positions at most, and then only the last one is.
-ghost use Rattle.std.specs.Prelude.{◌≡◌, ◌<◌, ◌≤◌, ◌+◌, All, flat_map, length};
+//! A header or extension block of a damaged image may belong to many files. Its data blocks show the same in each of them, save for their
+//! positions: at two positions each shows that its sequence number is wrong. So they are checked at two positions at most,
+//! and then only the last one is, if another data block stands behind it.
+ghost use Rattle.std.specs.Prelude.{◌≡◌, ◌<◌, ◌+◌, ◌++◌, ℕ, All, Bool, IsTrue, List, None, Some, false, length, slice_index_or, slice_set, true};
 ghost use Rattle.adf_block.specs.Image.{block_count};
-ghost use Rattle.ados_model.specs.Faults.{InImage, IsOfs, pointers_of};
+ghost use Rattle.adf_block.specs.declared.layout.TheConstants.{FIRST_POINTER};
+ghost use Rattle.ados_model.specs.Faults.{AreDataBlocks, InImage, IsFile, IsOfs, pointers_of};
 ghost use Rattle.ados_check.specs.DataRules.{IsPlaced};
-ghost use Rattle.ados_faults.specs.steps.Chain.{AreHeaders, IsPiece, first_in, next_in};
-ghost use Rattle.ados_faults.specs.steps.FileNotes.{AreAllSeen, ArePlacesNoted, IsOneNoted, IsPieceNoted, IsPlaceNoted, is_known};
+ghost use Rattle.ados_faults.specs.steps.Chain.{IsPiece, first_in, next_in};
+ghost use Rattle.ados_faults.specs.steps.FileNotes.{AreAllSeen, AreHeld, ArePlacesNoted, IsHeld, IsOneNoted, IsPieceNoted, HasBehind, IsPlaceNoted, is_known};
+ghost use Rattle.ados_faults.specs.steps.Longs.{AreLongs, AreTabled};
+ghost use Rattle.ados_faults.specs.steps.Tails.{AreTails, IsFront, LeadsTo, is_settled_at};
 ghost use Rattle.ados_faults.specs.steps.Noted.{AreNoted, AreStillNoted};
 
 use crate::bits::is_inside;
-use crate::file_blocks::pointers_in;
+use crate::file_blocks::HeaderTable;
+use crate::front::{Front, Reach, Tail, is_settled_at};
 use crate::notes::Notes;
 use adf_block::Image;
+use adf_block::beside::KIND_BYTE;
 use adf_block::layout::{FEWEST_BLOCKS, FIRST_POINTER};
 use ados_check::{DATA_RULES, Place, Source, data_evidence};
 
@@ -30,84 +35,149 @@ struct Piece {
     behind: Option<u32>,
 }
 
-/// Where the data blocks in the pointers of a block were checked.
+/// The data blocks in the pointers of a block, as they were checked last.
 #[derive(Clone, Copy)]
 pub(crate) struct Seen {
-    /// The number of data blocks before them.
-    position: u64,
+    piece: Piece,
     /// Whether they were also checked at another position.
     is_settled: bool,
 }
 
-/// Checks each data block of a file at its place, from the last one to the first. `count` is the number of data blocks.
+/// What was checked of files before.
+#[derive(Drop)]
+pub(crate) struct Known {
+    /// For each block of an OFS file the data blocks in its pointers, as they were checked last.
+    pub(crate) seen: Vec<Option<Seen>>,
+    /// For each block the chain of header and extension blocks from it on, if it ends outside the image.
+    pub(crate) tails: Vec<Option<Tail>>,
+}
+
+impl Known {
+    /// Keeps what is known of the chain from a block on, if it ends outside the image.
+    fn keep_tail(&mut self, is_open: bool, header: u32, reach: Reach, position: u64)
+        requires { header < length self.old.tails.items }
+        ensures seen { self.new.seen.items ≡ self.old.seen.items }
+        ensures kept { is_open ≡ true → (is_settled : Bool) × (is_settled ≡ is_settled_at (slice_index_or self.old.tails.items header None) position) × (self.new.tails.items ≡ slice_set self.old.tails.items header (Some (record { reach = reach; position = position; is_settled = is_settled }))) }
+        ensures same { is_open ≡ false → self.new.tails.items ≡ self.old.tails.items }
+    {
+        if !is_open {
+            return;
+        }
+        let is_settled = is_settled_at(self.tails[header as usize], position);
+        self.tails[header as usize] = Some(Tail {
+            reach,
+            position,
+            is_settled,
+        });
+    }
+}
+
+/// Checks the data blocks of a file at their places, from the last one that is not known to the first. The result is what its
+/// header and extension blocks lead to.
 pub(crate) fn look_along(
     image: &Image,
-    headers: &[u32],
-    count: u64,
-    seen: &mut [Option<Seen>],
+    file: u32,
+    front: &Front,
+    table: &HeaderTable,
+    known: &mut Known,
     notes: &mut Notes,
-)
+) -> Reach
     requires noted { AreNoted image.now notes.old.cells.items }
-    requires ofs { IsOfs image.now }
-    requires headers { AreHeaders image.now headers.now }
-    requires inside { All (InImage image.now) headers.now }
-    requires few { length headers.now ≤ block_count image.now }
-    requires count { count ≡ length (flat_map (pointers_of image.now) headers.now) }
-    requires seen { AreAllSeen image.now notes.old.cells.items seen.old }
+    requires file { IsFile image.now file }
+    requires inside { All (InImage image.now) front.now.headers.list.items }
+    requires front { IsFront image.now notes.old.cells.items file front.now.headers.list.items front.now }
+    requires table { AreTabled image.now table.now.nexts.items table.now.counts.items table.now.firsts.items }
+    requires held { IsOfs image.now → AreHeld image.now table.now.held.items }
+    requires seen { AreAllSeen image.now notes.old.cells.items known.old.seen.items }
+    requires tails { AreTails image.now notes.old.cells.items known.old.tails.items }
     ensures noted { AreNoted image.now notes.new.cells.items }
     ensures stays { AreStillNoted notes.old.cells.items notes.new.cells.items }
-    ensures seen { AreAllSeen image.now notes.new.cells.items seen.new }
-    ensures places { ArePlacesNoted image.now notes.new.cells.items (flat_map (pointers_of image.now) headers.now) 0 }
+    ensures seen { AreAllSeen image.now notes.new.cells.items known.new.seen.items }
+    ensures tails { AreTails image.now notes.new.cells.items known.new.tails.items }
+    ensures reach { (blocks : List ℕ) → AreDataBlocks image.now file blocks → LeadsTo image.now blocks result }
+    ensures places { IsOfs image.now → (blocks : List ℕ) → AreDataBlocks image.now file blocks → ArePlacesNoted image.now notes.new.cells.items blocks 0 }
 {
     prove!(image.blocks() >= FEWEST_BLOCKS);
-    let mut position = count;
-    let mut behind = None;
-    for passed in 0..headers.len() {
-        let header = headers[headers.len() - 1 - passed];
-        let count = pointers_in(image, header);
+    let _file = file;
+    let mut position = front.count;
+    let mut reach = front.behind;
+    for passed in 0..front.headers.list.len() {
+        let header = front.headers.list[front.headers.list.len() - 1 - passed];
+        let count = table.counts[header as usize];
         position -= u64::from(count);
         let piece = Piece {
             header,
             count,
             position,
-            behind,
+            behind: reach.first,
         };
-        behind = look_at_piece(image, piece, seen, notes);
+        let first = look_at_piece(image, piece, &table.firsts, &mut known.seen, notes);
+        reach = Reach {
+            count: reach.count + u64::from(count),
+            held: held_with(&table.held, header, reach.held),
+            first,
+        };
+        known.keep_tail(front.is_open, header, reach, position);
     }
+    reach
 }
 
-/// Checks the data blocks of a piece, except those of which all is known. The result is the first one, or if there is
-/// none the data block behind it.
+/// In OFS the number of bytes that the data blocks in the pointers of a block hold together with others that hold so many.
+fn held_with(held: &[Option<u64>], header: u32, others: Option<u64>) -> Option<u64>
+    ensures { (image blocks : List ℕ) → header < block_count image → AreHeld image held.now → IsHeld image blocks others → IsHeld image (pointers_of image header ++ blocks) result }
+{
+    if header as usize >= held.len() {
+        return None;
+    }
+    let Some(own) = held[header as usize] else {
+        return None;
+    };
+    let Some(more) = others else {
+        return None;
+    };
+    Some(own.saturating_add(more))
+}
+
+/// Checks the data blocks of a piece of an OFS file, except those of which all is known. The result is the first one, or if there
+/// is none the data block behind it. Those of FFS files have no fields.
 fn look_at_piece(
     image: &Image,
     piece: Piece,
+    firsts: &[u32],
     seen: &mut [Option<Seen>],
     notes: &mut Notes,
 ) -> Option<u32>
     requires noted { AreNoted image.now notes.old.cells.items }
-    requires ofs { IsOfs image.now }
-    requires piece { IsPiece image.now piece }
+    requires firsts { AreLongs image.now FIRST_POINTER firsts.now }
+    requires inside { InImage image.now piece.header }
+    requires piece { IsOfs image.now → IsPiece image.now piece }
     requires seen { AreAllSeen image.now notes.old.cells.items seen.old }
     ensures noted { AreNoted image.now notes.new.cells.items }
     ensures stays { AreStillNoted notes.old.cells.items notes.new.cells.items }
     ensures seen { AreAllSeen image.now notes.new.cells.items seen.new }
-    ensures piece { IsPieceNoted image.now notes.new.cells.items piece }
-    ensures first { result ≡ first_in image.now piece }
+    ensures piece { IsOfs image.now → IsPieceNoted image.now notes.new.cells.items piece }
+    ensures first { IsOfs image.now → result ≡ first_in image.now piece }
 {
+    if image.byte(0, KIND_BYTE) != 0 {
+        return None;
+    }
     if piece.count == 0 {
         return piece.behind;
     }
-    let first = Some(image.long(piece.header, FIRST_POINTER));
+    let first = Some(firsts[piece.header as usize]);
     let before = seen[piece.header as usize];
-    if is_known(before, piece.position) {
-        look_at_one(image, piece, piece.count - 1, notes);
+    if !is_known(before, piece.position) {
+        look_at_all_in(image, piece, notes);
+        seen[piece.header as usize] = Some(Seen {
+            piece,
+            is_settled: before.is_some(),
+        });
         return first;
     }
-    look_at_all_in(image, piece, notes);
-    seen[piece.header as usize] = Some(Seen {
-        position: piece.position,
-        is_settled: before.is_some(),
-    });
+    if has_behind(before, piece.behind) {
+        return first;
+    }
+    look_at_one(image, piece, piece.count - 1, notes);
     first
 }
 
@@ -116,7 +186,17 @@ fn is_known(seen: Option<Seen>, position: u64) -> bool
     ensures { result ≡ is_known seen position }
 {
     match seen {
-        Some(seen) => seen.is_settled || seen.position == position,
+        Some(seen) => seen.is_settled || seen.piece.position == position,
+        None => false,
+    }
+}
+
+/// Whether the data blocks were checked last with this one behind them.
+fn has_behind(seen: Option<Seen>, behind: Option<u32>) -> bool
+    ensures { IsTrue result → HasBehind seen behind }
+{
+    match seen {
+        Some(seen) => seen.piece.behind == behind,
         None => false,
     }
 }

@@ -1,5 +1,5 @@
 -- The headers, one by one.
-use Rattle.ados_salvage.proofs.KnownCommon.{◌≡◌, ◌≢◌, ℕ, ◌+◌, ◌<◌, ◌≤◌, ◌↔◌, IsTrue, below_more, inl, inr, Bool, true, false, MatchBool, All, AllPairs, List, [], ◌∷◌, ◌++◌, length, slice_index, get_or, get_or-set_same, get_or-set_other, length-set, Contains, refl, sym, ap, ◌∙◌, subst, append_assoc, arith, AreDifferent, different_few, Found, mark_at, set, cases_eq, cases_order, get_or_append_left, get_or_default, get_or_push, length-append, All-push, Contains-append_left, Contains-append_right, all_pairs_push, block_count, IsHeader, IsNamedHeader, IsRoot, IsToldHeader, NamesEntries, of_root, of_sound, of_named, IsSoundHeader, AreFound, AreHeaders, AreSought, FindsMore, IsFound, IsSought}
+use Rattle.ados_salvage.proofs.KnownCommon.{◌≡◌, ◌≢◌, ℕ, ◌+◌, ◌<◌, ◌≤◌, ◌↔◌, IsTrue, below_more, inl, inr, Bool, true, false, MatchBool, All, AllPairs, List, [], ◌∷◌, ◌++◌, length, slice_index, get_or, get_or-set_same, get_or-set_other, length-set, Contains, refl, sym, ap, ◌∙◌, subst, append_assoc, arith, AreDifferent, different_few, Found, mark_at, set, cases_eq, cases_order, get_or_append_left, get_or_default, get_or_push, length-append, All-push, Contains-append_left, Contains-append_right, all_pairs_push, block_count, IsHeader, IsNamedHeader, IsRoot, IsToldHeader, NamesEntries, of_root, of_sound, of_named, AreFound, AreHeaders, AreSought, FindsMore, IsFound, IsSought}
 use Rattle.ados_salvage.proofs.Naming.{header_inside, header_names}
 
 -- one more block was looked at

@@ -1,13 +1,12 @@
 -- Blocks that others name, marked one holder and one long after the other.
-use Rattle.ados_salvage.proofs.AccountCommon.{Adds, HasNoMarks, IsMarked, block_count}
+use Rattle.ados_salvage.proofs.AccountCommon.{Adds, HasNoMarks, block_count}
 use Rattle.ados_salvage.proofs.Marking.{adds_as, adds_both, adds_none}
-use Rattle.ados_salvage.specs.Doubtful.{IsNamedIn, IsPlaceIn, NamesEntries}
+use Rattle.ados_salvage.specs.Doubtful.{IsNamedIn, NamesEntries}
 use Rattle.ados_salvage.specs.Lost.{IsNamed}
-use Rattle.ados_salvage.specs.Marks.{mark_at}
 use Rattle.ados_salvage.specs.steps.Mending.{AreMarksFor, NamesAt, NamesSome}
 use Rattle.ados_salvage.proofs.Naming.{place_below}
 use Rattle.std.proofs.lemmas.Bool.{cases_eq}
-use Rattle.std.proofs.Common.{ℕ, ◌+◌, ◌<◌, ◌≤◌, ◌≡◌, ◌⊎◌, inl, inr, IsTrue, ◌↔◌, List, Bool, true, arith, refl, subst, sym, ◌∙◌}
+use Rattle.std.proofs.Common.{ℕ, ◌+◌, ◌<◌, ◌≤◌, ◌≡◌, ◌⊎◌, inl, inr, List, Bool, arith, subst, ◌∙◌}
 
 -- one of the first has the property
 abbrev pub Upto : (ℕ → ℕ → Type 0) → ℕ → ℕ → Type 0

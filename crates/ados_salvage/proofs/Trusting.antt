@@ -2,7 +2,7 @@
 use Rattle.ados_salvage.proofs.KnownCommon.{◌≡◌, ℕ, ◌+◌, ◌-◌, ◌/◌, ◌<◌, inl, inr, Bool, true, false, MatchBool, List, [], get_or, All, Contains, Option, Some, refl, sym, ◌∙◌, subst, arith, InImage, IsReachedAndFree, PlaceNames, Reached, Shows, root_of, AreOfReached, IsDoubt, cases_order, long, IsImage, ShowsNoFault, AreTrustedPages, IsTrustedBitmap}
 use Rattle.ados_check.specs.declared.mark.Mark.{Mark}
 use Rattle.ados_check.specs.Marks.{mark_at}
-use Rattle.ados_faults.specs.Listed.{AreMarks, ListsDoubts, fault_of, root_mark}
+use Rattle.ados_faults.specs.Listed.{AreMarks, ListsAll, fault_of, root_mark}
 use Rattle.ados_faults.proofs.Insides.{reached_inside}
 use Rattle.ados_map.specs.Pages.{LawfulPages, page_block, pages_of}
 use Rattle.ados_model.specs.declared.fault.FaultKind.{FaultKind}
@@ -38,7 +38,7 @@ trusted_pages image t = record {
       t.root BlockUsedTwice (subst (Shows image BlockUsedTwice) e (root_named e named));
 }
 
-module _ (image : List ℕ) (faults : List VolumeFault) (shown : All (λ fault. Shows image fault.kind fault.block) faults) (doubts : ListsDoubts image faults) where
+module _ (image : List ℕ) (faults : List VolumeFault) (shown : All (λ fault. Shows image fault.kind fault.block) faults) (lists : ListsAll image faults) where
   -- what holds of each of them holds of one that is there
   met : (P : VolumeFault → Type 0) → All P faults → (kind : FaultKind) (block : ℕ) → Contains faults (fault_of kind block) → P (fault_of kind block)
   met P all kind block there = subst P there.2 (all there.0 _ there.1)
@@ -46,12 +46,12 @@ module _ (image : List ℕ) (faults : List VolumeFault) (shown : All (λ fault. 
   -- no doubt is left
   pub trusted_by : IsImage image → HasValidBitmap image → AreTrustedPages image → All (λ fault. ¬ IsDoubt image fault) faults → IsTrustedBitmap image
   trusted_by im valid pages none = record {
-    root = λ kind bad. let other = doubts.root kind bad in met (λ fault. ¬ IsDoubt image fault) none other.0 (root_of image) other.1 (inr refl);
+    root = λ kind bad. met (λ fault. ¬ IsDoubt image fault) none kind (root_of image) (lists kind (root_of image) bad) (inr refl);
     valid = valid;
     pages = pages;
     in_use = λ block role reached free.
         let bit : IsReachedAndFree image block = record { valid = valid; role = role; reached = reached; page = bit_inside image pages block (reached_inside image im reached); free = free } in
-        met (λ fault. ¬ IsDoubt image fault) none MarkedFree block (doubts.free block bit) (inl refl);
+        met (λ fault. ¬ IsDoubt image fault) none MarkedFree block (lists MarkedFree block bit) (inl refl);
   }
 
   -- and a trusted bitmap leaves none
@@ -68,9 +68,9 @@ module _ (image : List ℕ) (faults : List VolumeFault) (shown : All (λ fault. 
   trust_decided im valid pages true all = trusted_by im valid pages all
   trust_decided im valid pages false some = λ t. some (trusted_none t)
 
--- an image without faults shows nothing that a list would lack
-pub no_doubts : (image : List ℕ) → ShowsNoFault image → ListsDoubts image []
-no_doubts image none = record { root = λ kind shown. absurd (none kind (root_of image) shown); free = λ block shown. absurd (none MarkedFree block shown) }
+-- an image without faults shows nothing that the empty list lacks
+pub none_lists_all : (image : List ℕ) → ShowsNoFault image → ListsAll image []
+none_lists_all image none kind block shown = absurd (none kind block shown)
 
 -- a marked block inside the image is reached: it is the root, or the place in its mark names it
 pub marks_reach : (image : List ℕ) (marks : List (Option Mark)) → AreMarks image marks → AreOfReached image marks

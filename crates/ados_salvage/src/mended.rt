@@ -18,7 +18,7 @@ use adf_block::layout::{
     BLOCK_LONGS, BOOT_BLOCKS, DIRECTORY_TYPE, FILE_TYPE, HEADER_TYPE, OWN_KEY, PRIMARY_TYPE,
     SECONDARY_TYPE,
 };
-use std::alloc::{AllocError, Global};
+use std::alloc::AllocError;
 
 /// A wrong field of a header.
 #[derive(Clone, Copy)]

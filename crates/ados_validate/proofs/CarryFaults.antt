@@ -11,7 +11,7 @@ use Rattle.ados_model.specs.Faults.HasBadType.{data_primary, entry_primary, entr
 use Rattle.ados_model.specs.Faults.HasName.{entry_name, root_name}
 use Rattle.ados_model.specs.Faults.HasPointers.{extension_pointers, file_pointers}
 use Rattle.ados_check.proofs.Pointers.{pointers_are}
-use Rattle.ados_faults.proofs.Rooted.{data_reached}
+use Rattle.ados_faults.proofs.FileData.{data_reached}
 use Rattle.ados_validate.proofs.BesidePages.{apart, beside, not_page}
 use Rattle.ados_validate.proofs.Carry.{count, inside_a, longs, place_a, reached_a, root_same}
 use Rattle.ados_validate.proofs.PageFaults.{not_shown}

@@ -1,5 +1,5 @@
 -- The kept longs of the bitmap blocks.
-use Rattle.ados_validate.proofs.Common.{◌≡◌, ℕ, ◌+◌, ◌*◌, ◌/◌, ◌%◌, ◌<◌, ◌≤◌, List, [], ◌∷◌, ◌++◌, length, map, slice_index_or, sym, ap, ap₂, ◌∙◌, arith, range_with_len, long, page_block, pages_of, AreKeptLongs, page_long}
+use Rattle.ados_validate.proofs.Common.{◌≡◌, ℕ, ◌+◌, ◌*◌, ◌/◌, ◌%◌, ◌<◌, List, [], ◌∷◌, ◌++◌, length, map, slice_index_or, sym, ap, ap₂, ◌∙◌, arith, range_with_len, long, page_block, pages_of, AreKeptLongs, page_long}
 use Rattle.std.proofs.lemmas.List.FromFn.{get_or-map-range_with_len, length-map-range_with_len, map-range_with_len_more}
 
 module _ (image longs : List ℕ) (kept : AreKeptLongs image longs) where

@@ -29,7 +29,7 @@ pub struct JipFinding {
     pub wanted: u32,
 }
 
-/// Faults, and whether there may be more.
+/// Faults, and whether there are more.
 #[derive(Drop)]
 pub struct ToldFindings {
     pub findings: Vec<JipFinding>,

@@ -1,5 +1,5 @@
 -- The text that is told of blocks, in parts.
-use Rattle.std.specs.Prelude.{◌≡◌, ℕ, Bool, if◌then◌else◌, List, [], ◌∷◌, ◌++◌, flat_map, codes}
+use Rattle.std.specs.Prelude.{◌≡◌, ℕ, Bool, false, if◌then◌else◌, List, [], ◌∷◌, ◌++◌, flat_map, codes}
 use Rattle.json.specs.Token.{Token, begin_array, begin_object, boolean, end_array, end_object, key}
 use Rattle.json.specs.Print.{print}
 use Rattle.ados_census.specs.declared.place.Place.{Place}
@@ -77,7 +77,7 @@ place_part json first blocks block place = part json first place_object (λ one.
 -- what is told of it behind its places
 abbrev pub tail_tokens : FaultyBlock → List Token
 tail_tokens told =
-    end_array ∷ faults_tokens told.faults.now ++ key (codes "more") ∷ boolean told.more ∷ (unread_tokens told.unread ++ end_object ∷ [])
+    end_array ∷ faults_tokens told.faults.now ++ key (codes "more") ∷ boolean false ∷ (unread_tokens told.unread ++ end_object ∷ [])
 
 abbrev pub tail_part : Bool → FaultyBlock → List ℕ
 tail_part json told = if json then print (tail_tokens told) else behind_lines told

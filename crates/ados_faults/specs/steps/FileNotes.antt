@@ -34,12 +34,13 @@ IsOneNoted image cells piece i =
 pub record IsPieceNoted (image : List ℕ) (cells : List Bool) (piece : Piece) : Type 0 where
   pub placed : (i : ℕ) → i < piece.count → IsOneNoted image cells piece i
 
--- what all but the last of the data blocks in the pointers of a block show at one position is noted, and what they show
--- at each position, if they were checked at two
+-- what the data blocks in the pointers of a block show at one place is noted, and if they were checked at two positions, that
+-- each has a wrong sequence number
 pub record IsHeaderSeen (image : List ℕ) (cells : List Bool) (header : ℕ) (seen : Seen) : Type 0 where
-  pub placed : (i : ℕ) → i + 1 < length (pointers_of image header) → InImage image (slice_index (pointers_of image header) i)
-      → IsPlaceNoted image cells (slice_index (pointers_of image header) i) (seen.position + i) (Some (slice_index (pointers_of image header) (i + 1)))
-  pub settled : seen.is_settled ≡ true → (i : ℕ) → i + 1 < length (pointers_of image header) → InImage image (slice_index (pointers_of image header) i)
+  pub header_is : seen.piece.header ≡ header
+  pub count : seen.piece.count ≡ length (pointers_of image header)
+  pub placed : IsPieceNoted image cells seen.piece
+  pub settled : seen.is_settled ≡ true → (i : ℕ) → i < length (pointers_of image header) → InImage image (slice_index (pointers_of image header) i)
       → IsNoted cells (cell_of BadSequence (slice_index (pointers_of image header) i))
 
 -- so it is for each block that was seen
@@ -50,7 +51,11 @@ pub record AreAllSeen (image : List ℕ) (cells : List Bool) (seen : List (Optio
 -- all but the last need no look at this position
 abbrev pub is_known : Option Seen → ℕ → Bool
 is_known None position = false
-is_known (Some seen) position = seen.is_settled || (seen.position == position)
+is_known (Some seen) position = seen.is_settled || (seen.piece.position == position)
+
+-- they were checked last with this data block behind them
+abbrev pub HasBehind : Option Seen → Option ℕ → Type 0
+HasBehind seen behind = (s : Seen) × (seen ≡ Some s) × (s.piece.behind ≡ behind)
 
 -- the blocks are inside the image, and hold another number of bytes than the size of the file
 abbrev pub HoldOtherSize : List ℕ → ℕ → List ℕ → Type 0

@@ -1,5 +1,5 @@
 -- The names of entries, and the entries that share one.
-use Rattle.std.specs.Prelude.{◌≡◌, ◌≢◌, ℕ, ◌<◌, List, Bool, Option, Some, MatchOption, option_and_then, length, slice_get}
+use Rattle.std.specs.Prelude.{◌≡◌, ◌≢◌, ℕ, ◌<◌, List, Bool, Option, Some, MatchOption, option_and_then, length, slice_get, Contains}
 use Rattle.std.specs.declared.cmp.Ordering.{Ordering}
 use Rattle.std.specs.Ordering.{nat_cmp}
 use Rattle.std.specs.Cmp.Lexicographic.{slice_cmp}
@@ -10,7 +10,7 @@ use Rattle.ados_model.specs.declared.role.Role.TheVariants.{Entry}
 use Rattle.ados_model.specs.Faults.{HasShortName, Reached}
 use Rattle.ados_check.specs.Entries.{upper_name}
 use Rattle.ados_faults.specs.declared.names.Named.{Named}
-use Rattle.ados_faults.specs.steps.Blocks.{IsEntryIn}
+use Rattle.ados_faults.specs.steps.Blocks.{AreNextMet, IsEntryIn}
 use Rattle.ados_faults.specs.steps.Noted.{IsNoted, cell_of}
 
 -- the order of names, by their bytes
@@ -74,6 +74,12 @@ pub record AreFirstMet (cells : List Bool) (met : List (Option Named)) (first : 
 -- each entry of the directory with the name of another one there is noted
 pub record AreNamesNoted (image : List ℕ) (cells : List Bool) (dir : ℕ) : Type 0 where
   pub noted : (block other s t : ℕ) → Reached image block (Entry dir s) → Reached image other (Entry dir t) → HasShortName image block → HasShortName image other
+      → upper_name image block ≡ upper_name image other → block ≢ other → IsNoted cells (cell_of DuplicateName block)
+
+-- the next entry of each block in the list is in it, and each of them with the name of another one there is noted
+pub record AreListedNoted (image : List ℕ) (cells : List Bool) (blocks : List ℕ) : Type 0 where
+  pub closed : AreNextMet image blocks (length blocks)
+  pub noted : (block other : ℕ) → Contains blocks block → Contains blocks other → HasShortName image block → HasShortName image other
       → upper_name image block ≡ upper_name image other → block ≢ other → IsNoted cells (cell_of DuplicateName block)
 
 -- so it is of each directory

@@ -4,7 +4,7 @@ use Rattle.adf_block.specs.Image.{block_count}
 use Rattle.ados_model.specs.declared.fault.FaultKind.{FaultKind}
 use Rattle.ados_model.specs.Faults.{Shows}
 use Rattle.ados_model.specs.declared.fault.VolumeFault.{VolumeFault}
-use Rattle.ados_faults.specs.Listed.{IsOther, ListsFaults, ShowsMoreThan, StandsBefore, fault_of, rank}
+use Rattle.ados_faults.specs.Listed.{ListsFaults, ShowsMoreThan, StandsBefore, fault_of, rank}
 
 -- the cell for a kind of fault and a block
 abbrev pub cell_of : FaultKind → ℕ → ℕ
@@ -39,10 +39,6 @@ ListsNoted cells faults = (kind : FaultKind) (block : ℕ) → IsNoted cells (ce
 abbrev pub ListsFirst : List Bool → List VolumeFault → Type 0
 ListsFirst cells faults =
     (kind : FaultKind) (block : ℕ) → IsNoted cells (cell_of kind block) → Contains faults (fault_of kind block) ⊎ All (λ fault. StandsBefore fault (fault_of kind block)) faults
-
--- a fault is noted that is neither a block marked free nor a wrong checksum
-abbrev pub NotesOther : List Bool → Type 0
-NotesOther cells = (fault : VolumeFault) × IsNoted cells (cell_at fault) × IsOther fault
 
 -- the list has as many of the noted faults as it may have, the first ones, and there are more
 pub record IsFull (image : List ℕ) (cells : List Bool) (most : ℕ) (faults : List VolumeFault) : Type 0 where

@@ -1,5 +1,5 @@
 //! The OFS data blocks of an image, by the headers and the numbers in them.
-ghost use Rattle.std.specs.Prelude.{◌≡◌, ◌<◌, IsTrue};
+ghost use Rattle.std.specs.Prelude.{◌<◌, IsTrue};
 ghost use Rattle.ados_salvage.specs.Loose.{IsLooseData};
 
 use adf_block::layout::{BOOT_BLOCKS, DATA_TYPE, OWN_KEY, PRIMARY_TYPE, SEQUENCE};

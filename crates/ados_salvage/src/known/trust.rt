@@ -2,7 +2,7 @@
 ghost use Rattle.std.specs.Prelude.{◌≡◌, ◌≢◌, ◌<◌, ◌↔◌, ℕ, false, All, IfOk, IfSome, IsTrue, MatchBool, MatchOption};
 ghost use Rattle.adf_block.specs.Image.{block_count};
 ghost use Rattle.adf_block.specs.Whole.{IsImage};
-ghost use Rattle.ados_faults.specs.Listed.{ListsDoubts};
+ghost use Rattle.ados_faults.specs.Listed.{ListsAll};
 ghost use Rattle.ados_map.specs.Pages.{page_block, pages_of};
 ghost use Rattle.ados_model.specs.Accepted.{ShowsNoFault};
 ghost use Rattle.ados_model.specs.Faults.{InImage, Shows};
@@ -61,7 +61,7 @@ pub(crate) fn marks_of_faulty(
 /// Whether the bitmap of an image with these faults can be trusted.
 pub(crate) fn is_trusted(image: &Image, faults: &[VolumeFault]) -> bool
     requires shown { All (λ fault. Shows image.now fault.kind fault.block) faults.now }
-    requires doubts { ListsDoubts image.now faults.now }
+    requires all { ListsAll image.now faults.now }
     ensures { MatchBool result (IsTrustedBitmap image.now) (¬ IsTrustedBitmap image.now) }
 {
     prove!(image.blocks() >= 16);

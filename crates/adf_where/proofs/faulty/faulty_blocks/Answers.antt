@@ -4,7 +4,7 @@ use Rattle.adf_where.proofs.faulty.faulty_blocks.Goals as goal
 
 pub loop-block-preserved : goal.loop-block-preserved
 loop-block-preserved c =
-    let R = λ (block : ℕ) (told : FaultyBlock). IsFaultyBlock c.args.image.now c.args.unread.now c.args.found.now.more block told in
+    let R = λ (block : ℕ) (told : FaultyBlock). IsFaultyBlock c.args.image.now c.args.unread.now block told in
     let blocks = c.args.blocks.now in
     let i = c.loop-block.block-index in
     let here = c.faulty_block.ensures blocks c.requires.asked (Contains-get_or blocks i 0 c.loop-block-test.true) in

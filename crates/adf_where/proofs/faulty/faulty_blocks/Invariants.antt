@@ -3,4 +3,4 @@ use Rattle.adf_where.proofs.faulty.faulty_blocks.Given as goal
 
 -- what is told of the blocks before this one
 abbrev pub invariant-loop-block : goal.invariant-loop-block
-invariant-loop-block l = AllZip (IsFaultyBlock l.image l.unread l.found.more) (take l.block-index l.blocks) l.told.items
+invariant-loop-block l = AllZip (IsFaultyBlock l.image l.unread) (take l.block-index l.blocks) l.told.items

@@ -1,4 +1,4 @@
-use Rattle.adf_where.proofs.Common.{◌≡◌, ◌≤◌, Bool, false, subst, arith}
+use Rattle.adf_where.proofs.Common.{◌≤◌, Bool, false, subst, arith}
 use Rattle.std.specs.Prelude.{MatchBool}
 use Rattle.adf_block.specs.declared.layout.TheConstants.{BOOT_BLOCKS}
 use Rattle.adf_where.specs.FaultyMap.{ShowsAt}
@@ -17,7 +17,7 @@ returns-then-shows_fault c =
       | else-block-ge-BOOT_BLOCKS-via-else-block-ge-BOOT_BLOCKS w ↦ absurd (omega (arith, behind, w.if-block-ge-BOOT_BLOCKS.false))
     ] in (
       not_twice image block c.args.places.now c.requires.places (λ inside. one inside.0),
-      subst (λ (b : Bool). MatchBool b (ShowsAt image block) (c.args.found.now.more ≡ false → ¬ ShowsAt image block)) c.if-shows_fault.true (c.shows_fault.ensures image c.requires.found),
+      subst (λ (b : Bool). MatchBool b (ShowsAt image block) (¬ ShowsAt image block)) c.if-shows_fault.true (c.shows_fault.ensures image c.requires.found),
     )
 
 pub plain_mark-requires-clause-once : goal.plain_mark-requires-clause-once
@@ -35,6 +35,6 @@ returns c =
       | else-block-ge-BOOT_BLOCKS-via-then-block-ge-BOOT_BLOCKS+else-has_two_longs w ↦ w.if-has_two_longs.ensures
       | else-block-ge-BOOT_BLOCKS-via-else-block-ge-BOOT_BLOCKS w ↦ absurd (omega (arith, behind, w.if-block-ge-BOOT_BLOCKS.false))
     ] in
-    plain_marked image c.args.found.now.more block c.plain_mark.result (not_twice image block c.args.places.now c.requires.places (λ inside. one inside.0))
-    (subst (λ (b : Bool). MatchBool b (ShowsAt image block) (c.args.found.now.more ≡ false → ¬ ShowsAt image block)) c.if-shows_fault.false (c.shows_fault.ensures image c.requires.found))
+    plain_marked image block c.plain_mark.result (not_twice image block c.args.places.now c.requires.places (λ inside. one inside.0))
+    (subst (λ (b : Bool). MatchBool b (ShowsAt image block) (¬ ShowsAt image block)) c.if-shows_fault.false (c.shows_fault.ensures image c.requires.found))
     c.plain_mark.ensures

@@ -1,7 +1,8 @@
-use Rattle.ados_faults.proofs.Common.{rules, inr, List, ℕ, length, drop, get_or, sym, subst, arith, All, Contains, take_at, slice_get-get_or, FILE_TYPE, IsOfType, AreAllSeen, IsFileNoted}
+use Rattle.ados_faults.proofs.Common.{rules, inr, List, ℕ, get_or, sym, subst, arith, All, Contains, slice_get-get_or, FILE_TYPE, IsOfType, IsFileNoted}
 use Rattle.ados_faults.proofs.ByHeaders.{none_seen}
 use Rattle.ados_faults.proofs.Cells.{noted_on}
 use Rattle.ados_faults.proofs.FileNotes.{file_of, file_on}
+use Rattle.ados_faults.proofs.TailNotes.{none_known}
 use Rattle.ados_faults.proofs.Firsts.{all_firsts, one_more}
 use Rattle.ados_faults.proofs.files.look_at_files.Goals as goal
 
@@ -9,8 +10,9 @@ pub loop-file-init : goal.loop-file-init
 loop-file-init c = record {
   noted = c.requires.noted;
   stays = record { stay = λ cell e. e };
-  met = c.in_ok-headers.ensures.met;
-  seen = none_seen c.args.image.now c.args.notes.now.cells.items c.in_ok-seen.seen.items (search rules);
+  met = c.in_ok-front.ensures;
+  seen = none_seen c.args.image.now c.args.notes.now.cells.items _ (search rules);
+  tails = none_known c.args.image.now c.args.notes.now.cells.items _ (search rules);
   each = λ k file l e. absurd (omega (arith, l));
 }
 
@@ -29,12 +31,12 @@ loop-file-preserved c =
     let before = c.loop-file.invariant in
     let old = c.loop-file.notes.cells.items in
     let new = c.look_at_file.new.notes.cells.items in
-    let seen = c.look_at_file.new.seen in
     record {
       noted = done.noted;
       stays = noted_on before.stays done.stays;
-      met = c.in_ok-list_headers.ensures.met;
-      seen = subst (AreAllSeen image new) (sym (take_at seen (drop (length seen) c.loop-file.seen.items) c.loop-file.seen.len (omega (arith, done.seen.size, before.seen.size, c.loop-file.seen.ok.0)))) done.seen;
+      met = c.in_ok-list.ensures.met;
+      seen = done.seen;
+      tails = done.tails;
       each = one_more files (IsFileNoted image old) (IsFileNoted image new) n (get_or files n 0) (slice_get-get_or files n 0 c.loop-file-test.true) (file_on image old new done.stays) done.whole before.each;
     }
 

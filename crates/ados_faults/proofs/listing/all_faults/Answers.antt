@@ -1,4 +1,4 @@
-use Rattle.ados_faults.proofs.Common.{AreFirstFaults, IsTangled, ListsFaults, ShowsOtherKind, TellsMore}
+use Rattle.ados_faults.proofs.Common.{AreFirstFaults, ListsFaults, ShowsOtherKind}
 use Rattle.std.proofs.lemmas.Result.{IfOk-weaker}
 use Rattle.ados_faults.specs.declared.listing.AllFaults.{AllFaults}
 use Rattle.ados_faults.proofs.listing.all_faults.Goals as goal
@@ -6,11 +6,5 @@ use Rattle.ados_faults.proofs.listing.all_faults.Goals as goal
 pub returns-in-Some-clause-first : goal.returns-in-Some-clause-first
 returns-in-Some-clause-first c =
     IfOk-weaker c.kind_alone.result (λ (found : AllFaults). ListsFaults c.args.image.now c.args.most found.faults.items)
-    (λ (found : AllFaults). ¬ ShowsOtherKind c.args.image.now → ¬ IsTangled c.args.image.now → AreFirstFaults c.args.image.now c.args.most found.more found.faults.items)
-    (λ found lists other plain. absurd (other (c.in-Some.kind, c.in-Some.ensures))) c.kind_alone.ensures.lists
-
-pub returns-in-Some-clause-exact : goal.returns-in-Some-clause-exact
-returns-in-Some-clause-exact c =
-    IfOk-weaker c.kind_alone.result (λ (found : AllFaults). ListsFaults c.args.image.now c.args.most found.faults.items)
-    (λ (found : AllFaults). ¬ ShowsOtherKind c.args.image.now → TellsMore c.args.image.now c.args.most found.more)
+    (λ (found : AllFaults). ¬ ShowsOtherKind c.args.image.now → AreFirstFaults c.args.image.now c.args.most found.more found.faults.items)
     (λ found lists other. absurd (other (c.in-Some.kind, c.in-Some.ensures))) c.kind_alone.ensures.lists

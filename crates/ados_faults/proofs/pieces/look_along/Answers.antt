@@ -1,81 +1,80 @@
-use Rattle.ados_faults.proofs.Common.{flat_map, ◌≡◌, ◌+◌, ◌-◌, ◌^◌, ◌<◌, ℕ, List, length, take, slice_index, refl, sym, ap, subst, arith, ◌∙◌, length-take-le, take_all, slice_get_past, pointers_of, slice_get, IsPiece, ArePlacesNoted, Piece}
+use Rattle.ados_faults.proofs.Common.{flat_map, ◌≡◌, ◌+◌, ◌-◌, ℕ, List, length, drop, take, sym, ap, subst, arith, ◌∙◌, NEXT_EXTENSION, pointers_of, take_at, AreAllSeen, AreHeld, ArePlacesNoted, IsAlong, LeadsTo}
+use Rattle.ados_faults.specs.declared.front.Reach.{Reach}
+use Rattle.ados_faults.proofs.Along.{along_front, along_more, enough, here_now, kept_tails, piece_along, reach_few}
 use Rattle.ados_faults.proofs.Cells.{noted_on}
-use Rattle.ados_faults.proofs.ByHeaders.{first_there, flat_few, length_before, piece_of, places_back}
+use Rattle.ados_faults.proofs.SameBlocks.{same_links}
+use Rattle.ados_faults.proofs.TailNotes.{all_tails_on}
 use Rattle.ados_faults.proofs.pieces.look_along.Goals as goal
 
 pub loop-passed-init : goal.loop-passed-init
-loop-passed-init c =
-    let headers = c.args.headers.now in
-    let blocks = flat_map (pointers_of c.args.image.now) headers in
-    record {
-      noted = c.requires.noted;
-      stays = record { stay = λ cell e. e };
-      seen = c.requires.seen;
-      position = c.requires.count ∙ sym (ap (λ (xs : List ℕ). length (flat_map (pointers_of c.args.image.now) xs)) (take_all (length headers - 0) headers (omega arith)));
-      behind = slice_get_past blocks c.args.count (omega (arith, c.requires.count));
-      places = record { placed = λ i from l. absurd (omega (arith, from, l, c.requires.count)) };
-    }
+loop-passed-init c = record {
+  noted = c.requires.noted;
+  stays = record { stay = λ cell e. e };
+  seen = c.requires.seen;
+  tails = c.requires.tails;
+  along = along_front c.args.image.now c.args.notes.now.cells.items c.args.file c.args.front.now.headers.list.items c.args.front.now (length c.args.front.now.headers.list.items - 0) c.requires.front (omega arith);
+}
 
 pub overflow_sub-position : goal.overflow_sub-position
 overflow_sub-position c =
-    let headers = c.args.headers.now in
-    let k = length headers - 1 - c.loop-passed.passed in
-    let l : k < length headers = omega (arith, c.loop-passed-test.true) in
-    let e : length headers - c.loop-passed.passed ≡ k + 1 = omega (arith, c.loop-passed-test.true) in
-    let was = c.loop-passed.invariant.position ∙ ap (λ (n : ℕ). length (flat_map (pointers_of c.args.image.now) (take n headers))) e in
-    omega (arith, was, length_before c.args.image.now headers k l, c.pointers_in-count.ensures.count, c.from-position.ensures)
+    let here = here_now c.args.image.now c.loop-passed.notes.cells.items c.args.notes.now.cells.items c.args.file c.args.front.now.headers.list.items c.args.front.now c.args.table.now.counts.items c.len.result c.loop-passed.passed
+    c.index-header.result.now c.index-count.result.now c.from-position.result c.loop-passed.position c.loop-passed.reach c.requires.file c.requires.front c.requires.inside c.requires.table.counts_are (omega (arith, c.blocks-2.ensures.count, c.blocks-2.type_inv))
+    (omega (arith, c.len.ensures, c.args.front.now.headers.list.ok.0)) (omega (arith, c.loop-passed-test.true, c.loop-passed.auto.passed-end, c.len-passed-end.ensures, c.len.ensures)) c.index-header.ensures c.index-count.ensures c.from-position.ensures c.loop-passed.invariant.along in
+    enough c.args.image.now c.loop-passed.notes.cells.items c.args.file c.requires.front.headers (length c.args.front.now.headers.list.items - (c.loop-passed.passed + 1)) c.loop-passed.position c.loop-passed.reach c.index-header.result.now c.index-count.result.now c.from-position.result here
 
-pub look_at_piece-behind-requires-clause-piece : goal.look_at_piece-behind-requires-clause-piece
-look_at_piece-behind-requires-clause-piece c =
-    let image = c.args.image.now in
-    let headers = c.args.headers.now in
-    let k = length headers - 1 - c.loop-passed.passed in
-    let l : k < length headers = omega (arith, c.loop-passed-test.true) in
-    let e : length headers - c.loop-passed.passed ≡ k + 1 = omega (arith, c.loop-passed-test.true) in
-    let was : c.loop-passed.position ≡ length (flat_map (pointers_of image) (take (k + 1) headers)) =
-    c.loop-passed.invariant.position ∙ ap (λ (n : ℕ). length (flat_map (pointers_of image) (take n headers))) e in
-    let more = length_before image headers k l in
-    let at : c.loop-passed.position - c.from-position.result ≡ length (flat_map (pointers_of image) (take k headers)) = omega (arith, was, more, c.pointers_in-count.ensures.count, c.from-position.ensures) in
-    let back : c.loop-passed.position - c.from-position.result + c.pointers_in-count.result ≡ c.loop-passed.position = omega (arith, was, more, c.pointers_in-count.ensures.count, c.from-position.ensures) in
-    let low : c.loop-passed.position - c.from-position.result + c.pointers_in-count.result < 2 ^ 62 =
-    omega (arith, back, was, flat_few image (take (k + 1) headers), length-take-le (k + 1) headers (omega (arith, l)), c.requires.few, c.blocks-2.ensures.count, c.blocks-2.type_inv) in
-    piece_of image headers k (record { header = slice_index headers k; count = c.pointers_in-count.result; position = c.loop-passed.position - c.from-position.result; behind = c.loop-passed.behind }) c.requires.headers l refl
-    (c.requires.inside k 0 l) c.pointers_in-count.ensures.count c.pointers_in-count.ensures.few at low (ap (slice_get (flat_map (pointers_of image) headers)) back ∙ c.loop-passed.invariant.behind)
+pub look_at_piece-first-requires-clause-piece : goal.look_at_piece-first-requires-clause-piece
+look_at_piece-first-requires-clause-piece c = λ ofs.
+    let here = here_now c.args.image.now c.loop-passed.notes.cells.items c.args.notes.now.cells.items c.args.file c.args.front.now.headers.list.items c.args.front.now c.args.table.now.counts.items c.len.result c.loop-passed.passed
+    c.index-header.result.now c.index-count.result.now c.from-position.result c.loop-passed.position c.loop-passed.reach c.requires.file c.requires.front c.requires.inside c.requires.table.counts_are (omega (arith, c.blocks-2.ensures.count, c.blocks-2.type_inv))
+    (omega (arith, c.len.ensures, c.args.front.now.headers.list.ok.0)) (omega (arith, c.loop-passed-test.true, c.loop-passed.auto.passed-end, c.len-passed-end.ensures, c.len.ensures)) c.index-header.ensures c.index-count.ensures c.from-position.ensures c.loop-passed.invariant.along in
+    piece_along c.args.image.now c.loop-passed.notes.cells.items c.args.file c.requires.front.headers (length c.args.front.now.headers.list.items - (c.loop-passed.passed + 1)) c.loop-passed.position c.loop-passed.reach c.index-header.result.now c.index-count.result.now c.from-position.result here ofs
+
+pub overflow_add-reach : goal.overflow_add-reach
+overflow_add-reach c =
+    let here = here_now c.args.image.now c.loop-passed.notes.cells.items c.args.notes.now.cells.items c.args.file c.args.front.now.headers.list.items c.args.front.now c.args.table.now.counts.items c.len.result c.loop-passed.passed
+    c.index-header.result.now c.index-count.result.now c.from-position.result c.loop-passed.position c.loop-passed.reach c.requires.file c.requires.front c.requires.inside c.requires.table.counts_are (omega (arith, c.blocks-2.ensures.count, c.blocks-2.type_inv))
+    (omega (arith, c.len.ensures, c.args.front.now.headers.list.ok.0)) (omega (arith, c.loop-passed-test.true, c.loop-passed.auto.passed-end, c.len-passed-end.ensures, c.len.ensures)) c.index-header.ensures c.index-count.ensures c.from-position.ensures c.loop-passed.invariant.along in
+    omega (arith, c.from.ensures, here.fits, here.small, reach_few c.args.image.now c.loop-passed.notes.cells.items c.args.file c.requires.front.headers (length c.args.front.now.headers.list.items - (c.loop-passed.passed + 1)) c.loop-passed.position c.loop-passed.reach c.index-header.result.now c.index-count.result.now c.from-position.result here)
 
 pub loop-passed-preserved : goal.loop-passed-preserved
-unfolding piece_of
 loop-passed-preserved c =
     let image = c.args.image.now in
-    let headers = c.args.headers.now in
-    let k = length headers - 1 - c.loop-passed.passed in
-    let l : k < length headers = omega (arith, c.loop-passed-test.true) in
-    let e : length headers - c.loop-passed.passed ≡ k + 1 = omega (arith, c.loop-passed-test.true) in
-    let next : length headers - (c.loop-passed.passed + 1) ≡ k = omega (arith, c.loop-passed-test.true) in
-    let was : c.loop-passed.position ≡ length (flat_map (pointers_of image) (take (k + 1) headers)) =
-    c.loop-passed.invariant.position ∙ ap (λ (n : ℕ). length (flat_map (pointers_of image) (take n headers))) e in
-    let more = length_before image headers k l in
-    let at : c.loop-passed.position - c.from-position.result ≡ length (flat_map (pointers_of image) (take k headers)) = omega (arith, was, more, c.pointers_in-count.ensures.count, c.from-position.ensures) in
-    let back : c.loop-passed.position - c.from-position.result + c.pointers_in-count.result ≡ c.loop-passed.position = omega (arith, was, more, c.pointers_in-count.ensures.count, c.from-position.ensures) in
-    let low : c.loop-passed.position - c.from-position.result + c.pointers_in-count.result < 2 ^ 62 =
-    omega (arith, back, was, flat_few image (take (k + 1) headers), length-take-le (k + 1) headers (omega (arith, l)), c.requires.few, c.blocks-2.ensures.count, c.blocks-2.type_inv) in
-    let piece : Piece = record { header = slice_index headers k; count = c.pointers_in-count.result; position = c.loop-passed.position - c.from-position.result; behind = c.loop-passed.behind } in
-    let p : IsPiece image piece = piece_of image headers k piece c.requires.headers l refl
-    (c.requires.inside k 0 l) c.pointers_in-count.ensures.count c.pointers_in-count.ensures.few at low (ap (slice_get (flat_map (pointers_of image) headers)) back ∙ c.loop-passed.invariant.behind) in
-    let done = c.look_at_piece-behind.ensures in
-    let old = c.loop-passed.notes.cells.items in
-    let new = c.look_at_piece-behind.new.notes.cells.items in
+    let later = c.look_at_piece-first.new.notes.cells.items in
+    let done = c.look_at_piece-first.ensures in
+    let v = c.loop-passed.invariant in
+    let f = c.requires.front in
+    let k = length c.args.front.now.headers.list.items - (c.loop-passed.passed + 1) in
+    let header = c.index-header.result.now in
+    let position = c.loop-passed.position - c.from-position.result in
+    let reach : Reach = record { count = c.loop-passed.reach.count + c.from.result; held = c.held_with.result; first = c.look_at_piece-first.result } in
+    let here = here_now c.args.image.now c.loop-passed.notes.cells.items c.args.notes.now.cells.items c.args.file c.args.front.now.headers.list.items c.args.front.now c.args.table.now.counts.items c.len.result c.loop-passed.passed
+    c.index-header.result.now c.index-count.result.now c.from-position.result c.loop-passed.position c.loop-passed.reach c.requires.file c.requires.front c.requires.inside c.requires.table.counts_are (omega (arith, c.blocks-2.ensures.count, c.blocks-2.type_inv))
+    (omega (arith, c.len.ensures, c.args.front.now.headers.list.ok.0)) (omega (arith, c.loop-passed-test.true, c.loop-passed.auto.passed-end, c.len-passed-end.ensures, c.len.ensures)) c.index-header.ensures c.index-count.ensures c.from-position.ensures c.loop-passed.invariant.along in
+    let seen = c.look_at_piece-first.new.seen in
+    let along : IsAlong image later f.headers k position reach =
+    along_more c.args.image.now c.loop-passed.notes.cells.items c.args.file c.requires.front.headers (length c.args.front.now.headers.list.items - (c.loop-passed.passed + 1)) c.loop-passed.position c.loop-passed.reach c.index-header.result.now c.index-count.result.now c.from-position.result here
+    later c.from.result c.held_with.result c.look_at_piece-first.result c.from.ensures done.stays done.piece done.first
+    (λ ofs held. c.held_with.ensures image (flat_map (pointers_of image) (drop (k + 1) f.headers)) here.inside.1 (subst (AreHeld image) (sym c.deref-in-loop-passed.ensures.value) (c.requires.held ofs)) held) in
     record {
       noted = done.noted;
-      stays = noted_on c.loop-passed.invariant.stays done.stays;
-      seen = done.seen;
-      position = at ∙ sym (ap (λ (n : ℕ). length (flat_map (pointers_of image) (take n headers))) next);
-      behind = first_there image piece p ∙ sym done.first;
-      places = places_back image old new piece p done.stays (subst (ArePlacesNoted image old (flat_map (pointers_of image) headers)) (sym back) c.loop-passed.invariant.places) done.piece;
+      stays = noted_on v.stays done.stays;
+      seen = subst (AreAllSeen image later) (sym (c.keep_tail.ensures.seen ∙ take_at seen (drop (length seen) c.loop-passed.known.seen.items) c.loop-passed.known.seen.len (omega (arith, done.seen.size, v.seen.size, c.loop-passed.known.seen.ok.0)))) done.seen;
+      tails = kept_tails image later c.args.file c.args.front.now.headers.list.items c.args.front.now f k position reach c.loop-passed.known.tails.items c.keep_tail.new.self.tails.items header here.within here.inside here.header_is
+          (all_tails_on image c.loop-passed.notes.cells.items later done.stays c.loop-passed.known.tails.items v.tails) along c.keep_tail.ensures.kept c.keep_tail.ensures.same;
+      along = λ headers linked. subst (λ (hs : List ℕ). IsAlong image later hs k position reach) (same_links image NEXT_EXTENSION c.args.file f.headers headers f.linked linked) along;
     }
 
+pub returns-clause-reach : goal.returns-clause-reach
+returns-clause-reach c = λ blocks of_file.
+    let none : length c.args.front.now.headers.list.items - c.loop-passed.passed ≡ 0 = omega (arith, c.loop-passed-test.false, c.loop-passed.auto.passed-end, c.len-passed-end.ensures, c.args.front.now.headers.list.ok.0) in
+    let a = c.loop-passed.invariant.along of_file.headers of_file.linked in
+    subst (λ (xs : List ℕ). LeadsTo c.args.image.now xs c.loop-passed.reach) (sym of_file.pointed)
+    (subst (λ (n : ℕ). LeadsTo c.args.image.now (flat_map (pointers_of c.args.image.now) (drop n of_file.headers)) c.loop-passed.reach) none a.leads)
+
 pub returns-clause-places : goal.returns-clause-places
-returns-clause-places c =
-    let headers = c.args.headers.now in
-    let all : length headers - c.loop-passed.passed ≡ 0 = omega (arith, c.loop-passed-test.false) in
-    let none : c.loop-passed.position ≡ 0 = c.loop-passed.invariant.position ∙ ap (λ (n : ℕ). length (flat_map (pointers_of c.args.image.now) (take n headers))) all in
-    subst (ArePlacesNoted c.args.image.now c.loop-passed.notes.cells.items (flat_map (pointers_of c.args.image.now) headers)) none c.loop-passed.invariant.places
+returns-clause-places c = λ ofs blocks of_file.
+    let none : length c.args.front.now.headers.list.items - c.loop-passed.passed ≡ 0 = omega (arith, c.loop-passed-test.false, c.loop-passed.auto.passed-end, c.len-passed-end.ensures, c.args.front.now.headers.list.ok.0) in
+    let a = c.loop-passed.invariant.along of_file.headers of_file.linked in
+    let zero : c.loop-passed.position ≡ 0 = a.position_is ∙ ap (λ (n : ℕ). length (flat_map (pointers_of c.args.image.now) (take n of_file.headers))) none in
+    subst (λ (xs : List ℕ). ArePlacesNoted c.args.image.now c.loop-passed.notes.cells.items xs 0) (sym of_file.pointed)
+    (subst (ArePlacesNoted c.args.image.now c.loop-passed.notes.cells.items (flat_map (pointers_of c.args.image.now) of_file.headers)) zero (a.places ofs))

@@ -1,8 +1,7 @@
 use Rattle.ados_faults.proofs.Common.{List, length, subst, Step, AreLookedAt, AreStillNoted}
-use Rattle.ados_faults.proofs.AtSteps.{AreStepsNoted, free_noted}
+use Rattle.ados_faults.proofs.AtSteps.{AreStepsNoted}
 use Rattle.ados_faults.proofs.Cells.{noted_on}
 use Rattle.ados_faults.proofs.Each.{each_noted}
-use Rattle.ados_faults.proofs.Rooted.{root_noted}
 use Rattle.ados_faults.proofs.search.search.Goals as goal
 
 pub returns-clause-searched : goal.returns-clause-searched
@@ -24,20 +23,13 @@ returns-clause-searched c =
     } in
     record {
       noted = c.look_at_disk.ensures.noted;
-      each = λ uncut kind block. each_noted image c.in_ok-walk.ensures.walked.whole last (record {
+      each = λ kind block. each_noted image c.in_ok-walk.ensures.walked.whole last (record {
         filed = c.look_further.new.notes.cells.items;
-        files = c.in_ok-look_further.ensures.files uncut;
+        files = c.in_ok-look_further.ensures.files;
         after_files = after_further;
         named = c.look_further.new.notes.cells.items;
-        names = c.in_ok-look_further.ensures.names uncut;
+        names = c.in_ok-look_further.ensures.names;
         after_names = after_further;
         disk = c.look_at_disk.ensures.whole;
       }) steps kind block;
-      root = root_noted image c.in_ok-walk.ensures.walked.whole last steps;
-      free = λ block h. free_noted image last steps block h.role h.reached (record { valid = h.valid; page = h.page; free = h.free });
-      cut = λ cut. record {
-        tangled = c.in_ok-is_cut.ensures.tangled cut;
-        more = c.in_ok-is_cut.ensures.more cut;
-        other = let o = c.in_ok-is_cut.ensures.other cut in (o.0, after_looks.stay _ o.1, o.2);
-      };
     }

@@ -1,4 +1,4 @@
-use Rattle.ados_salvage.proofs.Common.{Bool, List, ℕ, ap, refl, sym, subst, ◌∙◌, AreGathered}
+use Rattle.ados_salvage.proofs.Common.{Bool, List, ℕ, ap, refl, subst, ◌∙◌, AreGathered}
 use Rattle.ados_salvage.specs.Deleted.{TellsTrust}
 use Rattle.ados_salvage.specs.PutRight.{ArePutRight, MayBePutRight}
 use Rattle.ados_salvage.proofs.Besides.{gathered_tree}

@@ -9,7 +9,7 @@ returns c = record {
   image = c.blocks-2.ensures.image;
   faults = c.in_ok-found.found.faults.items;
   lists = c.in_ok-found.ensures.lists;
-  all = record { alone = c.in_ok-found.ensures.alone (omega arith); each = c.in_ok-found.ensures.each; exact = c.in_ok-found.ensures.exact; first = c.in_ok-found.ensures.first };
+  all = record { alone = c.in_ok-found.ensures.alone (omega arith); each = c.in_ok-found.ensures.each; first = c.in_ok-found.ensures.first };
   marks = c.in_ok-found.found.marks.items;
   marked = c.in_ok-found.ensures.marked;
   told_are = subst (λ (l : List VolumeFault). AreFindings c.args.image.now c.in_ok-found.found.marks.items l c.in_ok-findings.findings.items) c.deref-2.ensures.value

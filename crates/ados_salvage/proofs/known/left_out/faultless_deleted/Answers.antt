@@ -1,5 +1,5 @@
-use Rattle.ados_salvage.proofs.Trusting.{no_doubts}
+use Rattle.ados_salvage.proofs.Trusting.{none_lists_all}
 use Rattle.ados_salvage.proofs.known.left_out.faultless_deleted.Goals as goal
 
-pub is_trusted-requires-clause-doubts : goal.is_trusted-requires-clause-doubts
-is_trusted-requires-clause-doubts c = no_doubts c.args.image.now c.requires
+pub is_trusted-requires-clause-all : goal.is_trusted-requires-clause-all
+is_trusted-requires-clause-all c = none_lists_all c.args.image.now c.requires

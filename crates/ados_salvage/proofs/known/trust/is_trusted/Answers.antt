@@ -7,4 +7,4 @@ pub returns : goal.returns
 returns c =
     let pages = rw c.if-not-are_trusted_pages.false at c.are_trusted_pages.ensures in
     let valid = sym (ap (λ root. long c.args.image.now root 78) c.root.ensures) ∙ sym c.long.ensures ∙ c.if-long.false in
-    trust_decided c.args.image.now c.args.faults.now c.requires.shown c.requires.doubts c.are_no_doubts.ensures.image valid pages c.are_no_doubts.result c.are_no_doubts.ensures.doubt
+    trust_decided c.args.image.now c.args.faults.now c.requires.shown c.requires.all c.are_no_doubts.ensures.image valid pages c.are_no_doubts.result c.are_no_doubts.ensures.doubt
