@@ -1,5 +1,5 @@
 -- The report on the bytes of an image.
-use Rattle.std.specs.Prelude.{◌≡◌, ℕ, ◌<◌, ◌⊎◌, ◌||◌, Bool, true, List, length, map, All, IfSome, MatchOption, is_some, ⊤}
+use Rattle.std.specs.Prelude.{◌≡◌, ℕ, ◌<◌, ◌⊎◌, ◌||◌, Bool, true, false, List, length, map, All, IfSome, MatchOption, is_some, ⊤}
 use Rattle.adf_block.specs.Boot.{HasKind}
 use Rattle.adf_block.specs.Image.{block_count}
 use Rattle.adf_block.specs.Size.{IsSizeFault}
@@ -43,12 +43,13 @@ AreFound detail image checked suspects =
     (marks : List Bool) × AreListMarks detail.bad (block_count image) marks
     × ((t : Tree) → Stands checked t → AreSuspects detail.filler marks checked t suspects)
 
--- the image is accepted, and the report describes the volume; it has the suspect blocks exactly if they are wanted
+-- the image is accepted, and the report describes the volume; it has the contents and the suspect blocks exactly if they are wanted
 pub record IsAccepted (detail : Detail) (image : List ℕ) (told : AcceptedImage) : Type 0 where
   pub checked : List ℕ
   pub accepts : Accepts image told.validated checked
   pub kind : HasKind checked told.kind
   pub blocks : told.blocks ≡ block_count checked
+  pub asked : is_some told.contents ≡ detail.contents
   pub contents : IfSome told.contents (λ contents. (t : Tree) → Stands checked t → Tells t contents)
   pub wanted : is_some told.suspects ≡ wants_suspects detail
   pub suspects : IfSome told.suspects (λ suspects. AreFound detail image checked suspects.items)
@@ -102,10 +103,16 @@ abbrev pub IsComplete : List ℕ → ImageReport → Type 0
 IsComplete image (Refused told) = AreAllFaults image MOST_FAULTS told.more (map (λ shown. shown.fault) told.faults.items)
 IsComplete image report = ⊤
 
--- the report is the check's result for these bytes; its faults are complete, if that is wanted
+-- one fault is reported, and not that there are more
+abbrev pub IsOfOne : ImageReport → Type 0
+IsOfOne (Refused told) = (length told.faults.items ≡ 1) × (told.more ≡ false)
+IsOfOne report = ⊤
+
+-- the report is the check's result for these bytes; its faults are complete if that is wanted, else there is one
 pub record IsReportFor (detail : Detail) (image : List ℕ) (report : ImageReport) : Type 0 where
   pub is : IsReport detail image report
   pub each : detail.all ≡ true → IsComplete image report
+  pub one : detail.all ≡ false → IsOfOne report
 
 -- so it is for the bytes of some file
 abbrev pub IsReportOfSome : Detail → ImageReport → Type 0

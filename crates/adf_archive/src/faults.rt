@@ -1,5 +1,5 @@
 //! The faults of a refused image.
-ghost use Rattle.std.specs.Prelude.{◌≡◌, ◌<◌, ℕ, List, All, IfOk, IsTrue, length, map, true};
+ghost use Rattle.std.specs.Prelude.{◌≡◌, ◌<◌, ℕ, List, All, IfOk, IsTrue, length, map, true, false};
 ghost use Rattle.ados_model.specs.Faults.{Shows};
 ghost use Rattle.ados_faults.specs.Listed.{AreAllFaults, AreMarks};
 ghost use Rattle.adf_archive.specs.Report.{HasValues, IsOfMarks, IsReportFor, ShowsOnlyMarks};
@@ -45,6 +45,7 @@ fn told(
     requires marks { AreMarks image.now found.now.marks.items }
     requires found { AreAllFaults image.now 1000 found.now.more found.now.faults.items }
     requires each { detail.all ≡ true → AreAllFaults image.now 1000 more faults.now }
+    requires one { detail.all ≡ false → (length faults.now ≡ 1) × (more ≡ false) }
     ensures { IfOk result (IsReportFor detail.entry image.now) }
 {
     Ok(ImageReport::Refused(RefusedImage {

@@ -3,14 +3,14 @@ pub use Rattle.adf_block.specs.Fields.{format_of}
 pub use Rattle.adf_block.specs.Image.{block_count}
 pub use Rattle.adf_block.specs.declared.layout.Format.{Format}
 pub use Rattle.adf_block.specs.declared.layout.Format.TheVariants.{Ffs, Ofs}
-pub use Rattle.adf_import.specs.Changes.{Changes, described, filled}
+pub use Rattle.adf_import.specs.Changes.{Changes, ChangesTree, adding, cut_back, described, describing, filled, filling}
 pub use Rattle.adf_import.specs.Commands.{Does, EndsProtect, MakesMissing}
-pub use Rattle.adf_import.specs.InTurn.{KeepsInTurn}
-pub use Rattle.adf_import.specs.InTurn.KeepsInTurn.{none, one_more}
+pub use Rattle.adf_import.specs.InTurn.{GoesThrough}
+pub use Rattle.adf_import.specs.InTurn.GoesThrough.{none, one_more}
 pub use Rattle.adf_import.specs.Paths.{directory_at, object_at, place_at}
 pub use Rattle.adf_import.specs.Progress.{IsReady}
 pub use Rattle.adf_import.specs.Pruned.{AreKeysBelow}
-pub use Rattle.adf_import.specs.Put.{KeepsKeys, enter_refusal, entered, new_refusal, put, put_refusal}
+pub use Rattle.adf_import.specs.Put.{KeepsKeys, PutsFile, PutsIn, PutsInTurn, enter_refusal, entered, new_refusal, put, put_refusal, putting}
 pub use Rattle.adf_import.specs.Refusals.{make_refusal, more_blocks, or_no_room}
 pub use Rattle.adf_import.specs.Turns.{AreDone, AtWord, EndsAt, EndsInTurn, ReadsFirst}
 pub use Rattle.adf_import.specs.declared.fault.InFault.{InFault}
@@ -18,7 +18,6 @@ pub use Rattle.adf_import.specs.declared.new_file.NewFile.{NewFile}
 pub use Rattle.adf_import.specs.declared.new_file.NotPut.{NotPut}
 pub use Rattle.adf_import.specs.declared.paths.MoveFault.{MoveFault}
 pub use Rattle.adf_import.specs.declared.progress.Made.{Made}
-pub use Rattle.adf_import.specs.steps.CutBack.{cut_back}
 pub use Rattle.adf_text.specs.ProtectWords.{protect_word}
 pub use Rattle.adf_text.specs.declared.protect_words.Form.{Form}
 pub use Rattle.ados_change.proofs.Changed.{nodes_here, nodes_other, relisted}
@@ -29,7 +28,7 @@ pub use Rattle.ados_model.proofs.KeyLists.{Contains-cases, Contains-here, Contai
 pub use Rattle.ados_model.proofs.Nodes.{content_in, parent_in, some_in}
 pub use Rattle.ados_model.proofs.OneTree.{one_tree}
 pub use Rattle.ados_model.specs.Change.{changed, child_of, enter, is_file, made, removed, rewritten, with_node, written}
-pub use Rattle.ados_model.specs.Edits.{new_node, with_comment, with_protection}
+pub use Rattle.ados_model.specs.Edits.{new_node, with_comment, with_date, with_protection}
 pub use Rattle.ados_model.specs.Keys.{HasDirectory, HasEntryKey, HasKey, HasTree}
 pub use Rattle.ados_model.specs.Objects.{file_info, protection_of}
 pub use Rattle.ados_model.specs.Parts.{IsUnused, size_in}

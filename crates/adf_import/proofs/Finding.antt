@@ -11,8 +11,8 @@ at_found {K} {E} P Q r found is p = subst (λ (x : Result K E). MatchResult x P 
 pub same_changes : {A E : Type 0} (refusal other : Tree → Option E) (change again : A → Tree → Tree) (old new : Shown) (r : Result A E)
     → ((t : Tree) → Stands old.image t → other t ≡ refusal t) → ((a : A) (t : Tree) → Stands old.image t → again a t ≡ change a t)
     → Changes refusal change old new r → Changes other again old new r
-same_changes refusal other change again old new (Ok a) refuses makes h = λ t s. (refuses t s ∙ (h t s).0, subst (Stands new.image) (sym (makes a t s)) (h t s).1)
-same_changes refusal other change again old new (Err error) refuses makes h = (h.0, λ t s. refuses t s ∙ h.1 t s)
+same_changes refusal other change again old new (Ok a) refuses makes h = (λ t s. (refuses t s ∙ (h.0 t s).0, subst (Stands new.image) (sym (makes a t s)) (h.0 t s).1), h.1)
+same_changes refusal other change again old new (Err error) refuses makes h = ((h.0.0, λ t s. refuses t s ∙ h.0.1 t s), h.1)
 
 -- a read of a volume before a change
 pub changed_from : {A E : Type 0} (refusal : Tree → Option E) (change : A → Tree → Tree) (old looked new : Shown) (r : Result A E) → looked ≡ old → Changes refusal change looked new r → Changes refusal change old new r

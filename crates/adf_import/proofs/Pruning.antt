@@ -1,8 +1,8 @@
 -- The progress of removing everything below an entry.
-use Rattle.std.proofs.Common.{◌≡◌, ◌≢◌, ℕ, ◌⊎◌, inl, inr, Bool, true, false, not, ◌==◌, if◌then◌else◌, List, [], ◌∷◌, ◌++◌, filter, Contains, Option, Some, None, IsSome, is_some, option_map, refl, sym, ap, ap₂, ◌∙◌, subst, append_assoc}
-use Rattle.adf_import.proofs.Common.{option_map_or, cases_eq, Contains-append_cases, Contains-append_left, Contains-append_right, Date3, Once, Once-apart, Contains-split, Contains-cases, Contains-here, Contains-later, Contains-nil, Node, Tree, Proper, entries, parent_of, parent_in, one_tree, Stands, removed, IsUnder, itself, by_parent as under_parent, nodes_here, nodes_other, relisted, no_loop, StandsUnder, AreKeysBelow}
+use Rattle.std.proofs.Common.{◌≡◌, ◌≢◌, ℕ, ◌⊎◌, inl, inr, Bool, true, false, not, ◌==◌, if◌then◌else◌, List, [], ◌∷◌, ◌++◌, filter, map, reverse, Contains, Option, Some, None, IsSome, is_some, option_map, refl, sym, ap, ap₂, ◌∙◌, subst, append_assoc}
+use Rattle.adf_import.proofs.Common.{option_map_or, cases_eq, Contains-append_cases, Contains-append_left, Contains-append_right, Date3, Once, Once-apart, Contains-split, Contains-cases, Contains-here, Contains-later, Contains-nil, Node, Tree, Proper, entries, parent_of, parent_in, one_tree, Stands, removed, IsUnder, itself, by_parent as under_parent, nodes_here, nodes_other, relisted, no_loop, StandsUnder, AreKeysBelow, GoesThrough, HasTree, none, one_more}
 use Rattle.std.specs.Prelude.{option_and_then}
-use Rattle.std.proofs.lemmas.List.{append-nil}
+use Rattle.std.proofs.lemmas.List.{append-nil, map-append, reverse-append}
 use Rattle.ados_model.proofs.KeyLists.{Once-before}
 use Rattle.ados_model.specs.Tree.{entries_in}
 use Rattle.ados_model.proofs.Nodes.{directory_node}
@@ -12,7 +12,8 @@ use Rattle.ados_change.proofs.Changed.{listed_parents}
 use Rattle.ados_model.specs.Objects.{is_under}
 use Rattle.ados_volume.proofs.Distinct.{Contains-one}
 use Rattle.ados_volume.proofs.Under.{under_is_told}
-use Rattle.adf_import.specs.Pruned.{pruned}
+use Rattle.ados_change.specs.NewBlocks.{KeepsRest}
+use Rattle.adf_import.specs.Pruned.{RemovesInTurn, pruned}
 use Rattle.adf_import.proofs.KeysBelow.{among, held_key, not_top, own_before}
 
 -- of the keys below an entry, the last ones are removed and these are left; everything else is unchanged
@@ -319,3 +320,36 @@ module _ (t : Tree) (moment : Date3) (key : ℕ) (proper : Proper t) (keys : Lis
     pub pruning_ends : (new : List ℕ) → ((u : Tree) → Stands image u → Stands new (removed moment key u)) → Stands new (pruned moment key t)
     pruning_ends new stands =
         subst (Stands new) (pruned_is t moment key proper keys below p.now p.stands.proper shrunk_at_last dir up) (stands p.now p.stands)
+
+-- ---- the removals one after the other
+
+-- the last of these keys are removed, from the last on, and these are left
+pub record AreRemoved (stamp : Date3) (all rest old now : List ℕ) : Type 0 where
+  pub gone : List ℕ
+  pub split : all ≡ rest ++ gone
+  pub goes : GoesThrough (map (removed stamp) (reverse gone)) old now
+
+pub none_removed : (stamp : Date3) (all image : List ℕ) → AreRemoved stamp all all image image
+none_removed stamp all image = record { gone = []; split = sym (append-nil all); goes = none }
+
+module _ (stamp : Date3) (key : ℕ) (old now new : List ℕ) (stands : (t : Tree) → Stands now t → Stands new (removed stamp key t)) (keeps : KeepsRest now new) (has : HasTree new) where
+  key_removed : (gone : List ℕ) → GoesThrough (map (removed stamp) (reverse gone)) old now → GoesThrough (map (removed stamp) (reverse (key ∷ gone))) old new
+  key_removed gone goes =
+      let all = ap (map (removed stamp)) (reverse-append (key ∷ []) gone) ∙ map-append (removed stamp) (reverse gone) (key ∷ []) in
+      subst (λ (steps : List (Tree → Tree)). GoesThrough steps old new) (sym all) (one_more (map (removed stamp) (reverse gone)) (removed stamp key) goes stands keeps has)
+
+  -- the last of those left
+  pub next_removed : (all waiting rest : List ℕ) → waiting ≡ rest ++ key ∷ [] → AreRemoved stamp all waiting old now → AreRemoved stamp all rest old new
+  next_removed all waiting rest last r = record {
+    gone = key ∷ r.gone;
+    split = r.split ∙ ap (λ (ks : List ℕ). ks ++ r.gone) last ∙ append_assoc rest (key ∷ []) r.gone;
+    goes = key_removed r.gone r.goes;
+  }
+
+  -- the entry above them
+  pub top_removed : (below rest : List ℕ) → rest ≡ [] → AreRemoved stamp below rest old now → ((t : Tree) → Stands old t → AreKeysBelow t key below) → RemovesInTurn stamp key old new
+  top_removed below rest left r are_below = record {
+    below = below;
+    are_below = are_below;
+    goes = key_removed below (subst (λ (ks : List ℕ). GoesThrough (map (removed stamp) (reverse ks)) old now) (sym (r.split ∙ ap (λ (ks : List ℕ). ks ++ r.gone) left)) r.goes);
+  }

@@ -1,10 +1,11 @@
 -- A file or directory put under a name: in place of the entry with the name, or new.
-use Rattle.std.proofs.Common.{◌≡◌, ℕ, Bool, false, true, not, if◌then◌else◌, List, [], ◌∷◌, Option, Some, None, refl, sym, ap, ◌∙◌, is_some}
-use Rattle.adf_import.proofs.Common.{◌&&◌, option_map_or, true≢false, Date3, denies_delete, denies_write, DeleteProtected, DiskFull, ObjectExists, ObjectWrongType, WriteProtected, Content, Tree, content_at, free, IsUnused, Directory, File, Stands, HasDirectory, HasEntryKey, HasKey, HasTree, made, child_of, is_file, IsDirectoryKey, protection_of, lacks, first_refusal, refuse, passed, NewFile, filled, make_refusal, more_blocks, or_no_room, KeepsKeys, enter_refusal, entered, new_refusal, put, put_refusal}
+use Rattle.std.proofs.Common.{◌≡◌, ℕ, Bool, false, true, not, if◌then◌else◌, List, [], ◌∷◌, length, Option, Some, None, Ok, refl, sym, ap, ◌∙◌, is_some}
+use Rattle.adf_import.proofs.Common.{◌&&◌, option_map_or, true≢false, Date3, denies_delete, denies_write, DeleteProtected, DiskFull, ObjectExists, ObjectWrongType, WriteProtected, Content, Tree, content_at, free, IsUnused, Directory, File, Stands, HasDirectory, HasEntryKey, HasKey, HasTree, made, child_of, is_file, IsDirectoryKey, protection_of, lacks, first_refusal, refuse, passed, NewFile, NotPut, ChangesTree, GoesThrough, PutsIn, PutsInTurn, Shown, adding, filled, filling, make_refusal, more_blocks, or_no_room, KeepsKeys, enter_refusal, entered, new_refusal, put, put_refusal, putting}
 use Rattle.ados_model.specs.Change.{holds_file}
 use Rattle.ados_volume.proofs.Walking.{child_is_key}
 use Rattle.adf_import.specs.declared.new_file.NotPut.TheVariants.{NoRoom, Refused}
 use Rattle.adf_import.specs.Changes.{added}
+use Rattle.adf_import.specs.Put.PutsInTurn.{none as nothing_put, a_directory, a_description, a_file}
 use Rattle.adf_import.specs.Refusals.{add_refusal, replace_refusal}
 use Rattle.adf_import.proofs.Filling.{IsEntry, after_change}
 use Rattle.adf_import.proofs.Keeping.{content_made, entry_made, keeps_added, keeps_filled, keeps_keys, keeps_made}
@@ -19,6 +20,9 @@ module _ (t : Tree) (dir : ℕ) (name : List ℕ) (none : child_of t dir name �
   pub put_new : (size : ℕ) (force : Bool) → put_refusal dir name size force t ≡ add_refusal dir name size t
   put_new size force =
       ap (λ (o : Option ℕ). option_map_or (λ (key : ℕ). if force then replace_refusal key size false t else Some (Refused ObjectExists)) o (add_refusal dir name size t)) none
+
+  pub put_new_steps : (stamp : Date3) (file : NewFile) (key : ℕ) → putting stamp dir name file key t ≡ adding stamp dir key name file
+  put_new_steps stamp file key = ap (λ (o : Option ℕ). option_map_or (λ (there : ℕ). filling stamp there file) o (adding stamp dir key name file)) none
 
   pub put_new_tree : (moment : Date3) (file : NewFile) (key : ℕ) → put moment dir name file key t ≡ added moment dir key name file t
   put_new_tree moment file key = ap (λ (o : Option ℕ). option_map_or (λ (there : ℕ). filled moment there file t) o (added moment dir key name file t)) none
@@ -45,6 +49,9 @@ module _ (t : Tree) (dir : ℕ) (name : List ℕ) (there : ℕ) (is : child_of t
   put_over size force forced =
       ap (λ (o : Option ℕ). option_map_or (λ (key : ℕ). if force then replace_refusal key size false t else Some (Refused ObjectExists)) o (add_refusal dir name size t)) is
       ∙ ap (λ (b : Bool). if b then replace_refusal there size false t else Some (Refused ObjectExists)) forced
+
+  pub put_over_steps : (stamp : Date3) (file : NewFile) (key : ℕ) → putting stamp dir name file key t ≡ filling stamp there file
+  put_over_steps stamp file key = ap (λ (o : Option ℕ). option_map_or (λ (k : ℕ). filling stamp k file) o (adding stamp dir key name file)) is
 
   pub put_over_tree : (moment : Date3) (file : NewFile) (key : ℕ) → put moment dir name file key t ≡ filled moment there file t
   put_over_tree moment file key = ap (λ (o : Option ℕ). option_map_or (λ (k : ℕ). filled moment k file t) o (added moment dir key name file t)) is
@@ -109,3 +116,18 @@ module _ (moment : Date3) (dir key : ℕ) (name : List ℕ) (old new : List ℕ)
       let s = has.1 in
       after_change (IsEntry key) (made moment dir key name (Directory [])) old new t s stands
       (entry_made t moment dir key name (Directory []) (directory t s) (unused t s).no_node s.proper) u r
+
+-- ---- puts in turn
+
+-- a file that is put
+pub is_put : (stamp : Date3) (dir : ℕ) (name : List ℕ) (force : Bool) (file : NewFile) (key : ℕ) (old new : Shown)
+    → ChangesTree {E = NotPut} (put_refusal dir name (length file.bytes.now) force) (λ key t. put stamp dir name file key t) old new (Ok key)
+    → ((t : Tree) → Stands old.image t → GoesThrough (putting stamp dir name file key t) old.image new.image) → PutsIn stamp dir name force old.image new.image
+is_put stamp dir name force file key old new h goes = (file, key, λ t s. record { allowed = (h t s).0; stands = (h t s).1; goes = goes t s })
+
+-- some puts after others
+pub puts_both : (stamp : Date3) (force : Bool) (old between new : Shown) → PutsInTurn stamp force old between → PutsInTurn stamp force between new → PutsInTurn stamp force old new
+puts_both stamp force old between new first nothing_put = first
+puts_both stamp force old between new first (a_file dir name {between = next} puts put) = a_file dir name (puts_both stamp force old between next first puts) put
+puts_both stamp force old between new first (a_directory dir name e {between = next} puts entered) = a_directory dir name e (puts_both stamp force old between next first puts) entered
+puts_both stamp force old between new first (a_description key file {between = next} puts goes) = a_description key file (puts_both stamp force old between next first puts) goes

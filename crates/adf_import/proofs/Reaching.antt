@@ -235,7 +235,7 @@ module _ (moment : Date3) (path : List ℕ) (at dir : ℕ) (name : List ℕ) (ol
   made_reached key changes unused tree =
       let t = tree.0 in
       let s = looked_at t tree.1 in
-      let r = (changes t s).1 in
+      let r = (changes.0 t s).1 in
       record {
         within = omega arith;
         key = made_key old.image new.image t tree.1 moment dir key name (unused t s) m.directory r;

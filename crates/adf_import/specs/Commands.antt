@@ -1,5 +1,5 @@
 -- The effect of each command that changes a volume.
-use Rattle.std.specs.Prelude.{◌≡◌, ◌∷◌, ◌⊎◌, ℕ, Bool, false, true, List, [], length, None, Result, Ok, Err, MatchOption, MatchResult, OnOk, map, unwrap_or, ⊤}
+use Rattle.std.specs.Prelude.{◌≡◌, ◌∷◌, ◌⊎◌, ℕ, Bool, false, true, List, [], Result, Ok, Err, MatchOption, MatchResult, OnOk, map, unwrap_or, ⊤}
 use Rattle.std.specs.Str.{chars}
 use Rattle.std.specs.String.{string_bytes}
 use Rattle.ados_name.specs.declared.stamp.Date3.{Date3}
@@ -19,7 +19,7 @@ use Rattle.adf_import.specs.Changes.{Changes, reprotected}
 use Rattle.adf_import.specs.Pruned.{Prunes}
 use Rattle.adf_import.specs.Refusals.{delete_refusal, make_refusal, root_refusal}
 use Rattle.adf_import.specs.Paths.{ChangesAt, comment_refusal, directory_at, entry_move_refusal, move_ends, object_at, place_at, relabel_refusal}
-use Rattle.adf_import.specs.Put.{KeepsKeys, put, put_refusal}
+use Rattle.adf_import.specs.Put.{KeepsKeys, PutsFile, PutsInTurn}
 use Rattle.adf_import.specs.Turns.{AreDone, EndsAt, EndsInTurn, ReadsFirst, StopsAtPath}
 use Rattle.adf_import.specs.Ways.{fronts}
 use Rattle.adf_import.specs.Words.{IsRefusal}
@@ -127,17 +127,11 @@ Does moment (each.Make parents) = MakesWith moment parents
 Does moment (each.Entry change) = ChangesEntry moment change
 Does moment each.Relabel = Relabels moment
 
--- a file has this name in a directory, in place of the one that was there or new; nothing refuses it
-abbrev pub PutsIn : Date3 → ℕ → List ℕ → Bool → Shown → Shown → Type 0
-PutsIn moment dir name force old new =
-    (file : NewFile) × (key : ℕ) × ((t : Tree) → Stands old.image t → (put_refusal dir name (length file.bytes.now) force t ≡ None) × Stands new.image (put moment dir name file key t))
-
--- the same in the directory at a path
+-- some file is put under this name into the directory at a path
 abbrev pub PutsAs : Date3 → List ℕ → List ℕ → Bool → Shown → Shown → Type 0
 PutsAs moment to name force old new =
-    (file : NewFile) × (key : ℕ) × ((t : Tree) → Stands old.image t → MatchResult (directory_at to t)
-    (λ dir. (put_refusal dir name (length file.bytes.now) force t ≡ None) × Stands new.image (put moment dir name file key t))
-    (λ _. ⊥))
+    (file : NewFile) × (key : ℕ) × ((t : Tree) → Stands old.image t
+    → MatchResult (directory_at to t) (λ dir. PutsFile moment dir name force file key t old.image new.image) (λ _. ⊥))
 
 -- a result without its value
 abbrev pub without_answer : {A E : Type 0} → Result A E → Result Unit E
@@ -150,9 +144,9 @@ IsInside (Add files to force) = ⊥
 IsInside (AddAs source name to force) = ⊥
 IsInside _ = ⊤
 
--- the effect of a command on a volume, or its fault; `add` removes no directory and no entry
+-- the effect of a command on a volume, or its fault; `add` puts files and directories in turn, and removes none
 abbrev pub ChangesVolume : Change → Date3 → Shown → Shown → Result Unit InFault → Type 0
-ChangesVolume (Add files to force) moment old new result = OnOk result (KeepsKeys old.image new.image)
+ChangesVolume (Add files to force) moment old new result = OnOk result (KeepsKeys old.image new.image × PutsInTurn moment force old new)
 ChangesVolume (AddAs source name to force) moment old new result = OnOk result (PutsAs moment (chars to.now) (chars name.now) force old new)
 ChangesVolume (MakeDirectories paths parents) moment old new result =
     let words = map (λ word. word.now) paths.items in ReadsFirst words (EndsInTurn (MakesWith moment parents) words) old new result

@@ -1,5 +1,5 @@
 -- An entry removed with everything below it.
-use Rattle.std.specs.Prelude.{◌≡◌, ◌≢◌, ℕ, Bool, false, if◌then◌else◌, List, ◌∷◌, ◌++◌, AllPairs, Contains, Option, None, Some, Result, MatchOption, MatchResult, IsTrue}
+use Rattle.std.specs.Prelude.{◌≡◌, ◌≢◌, ℕ, Bool, false, if◌then◌else◌, List, ◌∷◌, ◌++◌, map, reverse, AllPairs, Contains, Option, None, Some, Result, MatchOption, MatchResult, IsTrue}
 use Rattle.ados_name.specs.declared.stamp.Date3.{Date3}
 use Rattle.ados_name.specs.Name.{denies_delete}
 use Rattle.ados_model.specs.declared.dos_error.DosError.{DosError}
@@ -11,6 +11,7 @@ use Rattle.ados_model.specs.Keys.{HasKey}
 use Rattle.ados_change.specs.Conditions.{IsUnder}
 use Rattle.ados_volume.specs.Shown.{Shown}
 use Rattle.ados_model.specs.Objects.{is_under, protection_of}
+use Rattle.adf_import.specs.InTurn.{GoesThrough}
 
 -- the entry leaves its directory as in `removed`, and no node at or below it is left
 abbrev pub pruned : Date3 → ℕ → Tree → Tree
@@ -54,10 +55,18 @@ CannotPrune t key force DeleteProtected = (key ≢ root t) × IsDenied t key for
 CannotPrune t key force NoFreeStore = key ≢ root t
 CannotPrune t key force _ = ⊥
 
--- the new image represents the tree without the entry and everything below it; or this error refuses it, and the
--- volume is unchanged
+-- everything below an entry is removed and then the entry, one after the other, each after what it contains
+pub record RemovesInTurn (stamp : Date3) (key : ℕ) (old new : List ℕ) : Type 0 where
+  pub below : List ℕ
+  pub are_below : (t : Tree) → Stands old t → AreKeysBelow t key below
+  pub goes : GoesThrough (map (removed stamp) (reverse (key ∷ below))) old new
+
+-- the new image represents the tree without the entry and everything below it, after these removals; or this error
+-- refuses it, and the volume is unchanged
 abbrev pub Prunes : {A : Type 0} → Date3 → ℕ → Bool → Shown → Shown → Result A DosError → Type 0
 Prunes moment key force old new result =
     MatchResult result
-    (λ _. (t : Tree) → Stands old.image t → CanPrune t key force × Stands new.image (pruned moment key t))
+    (λ _.
+    ((t : Tree) → Stands old.image t → CanPrune t key force × Stands new.image (pruned moment key t))
+    × RemovesInTurn moment key old.image new.image)
     (λ error. (new ≡ old) × ((t : Tree) → Stands old.image t → CannotPrune t key force error))

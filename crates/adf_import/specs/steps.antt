@@ -1,4 +1,3 @@
--- Definitions for steps: the cut of a file that is too long, the object that a part of a path leads to, and places in a new volume.
-pub mod CutBack
+-- Definitions for steps: the object that a part of a path leads to, and places in a new volume.
 pub mod Reached
 pub mod Spots

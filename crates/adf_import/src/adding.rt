@@ -3,7 +3,7 @@
 ghost use Rattle.std.specs.Prelude.{◌≡◌, OnOk};
 ghost use Rattle.ados_model.specs.Keys.{HasDirectory};
 ghost use Rattle.adf_import.specs.Progress.{Advances, IsReady};
-ghost use Rattle.adf_import.specs.Put.{KeepsKeys};
+ghost use Rattle.adf_import.specs.Put.{KeepsKeys, PutsInTurn};
 
 use crate::fault::{InFault, refused};
 use crate::host_files::{entry_name, read_entry};
@@ -31,7 +31,7 @@ pub(crate) fn add<R: PromptFiles>(
 ) -> Result<Vec<PassedOver>, InFault>
 where
     R::File: OwnedFile,
-    ensures { OnOk result (KeepsKeys volume.old.image volume.new.image) }
+    ensures { OnOk result (KeepsKeys volume.old.image volume.new.image × PutsInTurn how.moment how.force volume.old volume.new) }
 {
     let top = Word::new(alloc, to)?.directory(alloc, volume)?;
     let tree = host_tree(rt, alloc, files)?;
@@ -70,8 +70,9 @@ fn add_entry<R: PromptFiles>(
 where
     R::File: OwnedFile,
     requires { IsReady volume.old.image adding.old.top adding.old.progress }
-    ensures top { OnOk result (adding.new.top ≡ adding.old.top) }
+    ensures target { OnOk result ((adding.new.top ≡ adding.old.top) × (adding.new.how ≡ adding.old.how)) }
     ensures put { OnOk result (Advances volume.old.image volume.new.image adding.new.progress) }
+    ensures puts { OnOk result (PutsInTurn adding.old.how.moment adding.old.how.force volume.old volume.new) }
 {
     let dir = adding.progress.directory(entry.parent, adding.top);
     let name = free_name(alloc, volume, dir, entry, entries, &adding.progress)?;

@@ -7,7 +7,6 @@ ghost use Rattle.ados_model.specs.Tree.Content.{Directory};
 ghost use Rattle.ados_model.specs.Stands.{Stands};
 ghost use Rattle.ados_model.specs.Change.{made, removed, renamed};
 ghost use Rattle.ados_model.specs.Keys.{HasDirectory, HasKey};
-ghost use Rattle.ados_change.specs.NewBlocks.{KeepsRest};
 ghost use Rattle.adf_import.specs.Changes.{Changes};
 ghost use Rattle.adf_import.specs.Refusals.{delete_refusal, make_refusal, move_refusal};
 
@@ -28,7 +27,6 @@ pub fn make_directory(
     requires { HasDirectory volume.old.image dir }
     ensures made { Changes (make_refusal dir name) (λ key t. made moment dir key name (Directory []) t) volume.old volume.new result }
     ensures unused { IfOk result (λ key. (t : Tree) → Stands volume.old.image t → IsUnused t key) }
-    ensures keeps { KeepsRest volume.old.image volume.new.image }
     ensures validated { volume.new.was_validated ≡ volume.old.was_validated }
 {
     prove!(volume.image().blocks() >= 16);
@@ -49,7 +47,6 @@ pub fn make_directory(
 pub fn delete(volume: &mut Volume, key: u32, force: bool, moment: Date3) -> Result<(), DosError>
     requires { HasKey volume.old.image key }
     ensures done { Changes (delete_refusal key force) (λ _ t. removed moment key t) volume.old volume.new result }
-    ensures keeps { KeepsRest volume.old.image volume.new.image }
     ensures validated { volume.new.was_validated ≡ volume.old.was_validated }
 {
     if let Some(error) = remove_refusal(volume, key, false, force) {
@@ -73,7 +70,6 @@ pub fn move_entry(
     requires key { HasKey volume.old.image key }
     requires directory { HasDirectory volume.old.image dir }
     ensures done { Changes (move_refusal key dir name) (λ _ t. renamed moment key dir name t) volume.old volume.new result }
-    ensures keeps { KeepsRest volume.old.image volume.new.image }
     ensures validated { volume.new.was_validated ≡ volume.old.was_validated }
 {
     if let Some(error) = move_refusal(volume, key, dir, &name, false) {

@@ -3,7 +3,6 @@
 ghost use Rattle.std.specs.Prelude.{◌≡◌};
 ghost use Rattle.ados_model.specs.Edits.{with_comment, with_date};
 ghost use Rattle.ados_model.specs.Keys.{HasKey};
-ghost use Rattle.ados_change.specs.NewBlocks.{KeepsRest};
 ghost use Rattle.adf_import.specs.Changes.{Changes, protected};
 ghost use Rattle.adf_import.specs.Commands.{Relabels};
 ghost use Rattle.adf_import.specs.Paths.{comment_refusal};
@@ -20,7 +19,6 @@ use ados_volume::Volume;
 pub fn protect(volume: &mut Volume, key: u32, bits: Protect, moment: Date3) -> Result<(), DosError>
     requires { HasKey volume.old.image key }
     ensures done { Changes (root_refusal key) (λ _ t. protected moment key bits.0 t) volume.old volume.new result }
-    ensures keeps { KeepsRest volume.old.image volume.new.image }
     ensures validated { volume.new.was_validated ≡ volume.old.was_validated }
 {
     if key == volume.root() {
@@ -39,7 +37,6 @@ pub fn protect(volume: &mut Volume, key: u32, bits: Protect, moment: Date3) -> R
 pub fn comment(volume: &mut Volume, key: u32, text: &[u8], moment: Date3) -> Result<(), DosError>
     requires { HasKey volume.old.image key }
     ensures done { Changes (comment_refusal key text.now) (λ _ t. with_comment moment key text.now t) volume.old volume.new result }
-    ensures keeps { KeepsRest volume.old.image volume.new.image }
     ensures validated { volume.new.was_validated ≡ volume.old.was_validated }
 {
     let Ok(text) = Comment::new(text) else {
@@ -59,7 +56,6 @@ pub fn comment(volume: &mut Volume, key: u32, text: &[u8], moment: Date3) -> Res
 pub fn redate(volume: &mut Volume, key: u32, date: Date3, moment: Date3) -> Result<(), DosError>
     requires { HasKey volume.old.image key }
     ensures done { Changes (root_refusal key) (λ _ t. with_date moment key date t) volume.old volume.new result }
-    ensures keeps { KeepsRest volume.old.image volume.new.image }
     ensures validated { volume.new.was_validated ≡ volume.old.was_validated }
 {
     if key == volume.root() {
@@ -75,7 +71,6 @@ pub fn redate(volume: &mut Volume, key: u32, date: Date3, moment: Date3) -> Resu
 #[tactic(auto, using(ados_change::proofs::Keeping::same_keeps))]
 pub fn relabel(volume: &mut Volume, name: &[u8], moment: Date3) -> Result<(), DosError>
     ensures done { Relabels moment name.now volume.old volume.new result }
-    ensures keeps { KeepsRest volume.old.image volume.new.image }
     ensures validated { volume.new.was_validated ≡ volume.old.was_validated }
 {
     let Ok(name) = Name::new(name) else {

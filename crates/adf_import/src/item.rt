@@ -2,6 +2,7 @@
 
 ghost use Rattle.std.specs.Prelude.{OnOk};
 ghost use Rattle.adf_import.specs.Progress.{Advances, IsReady};
+ghost use Rattle.adf_import.specs.Put.{PutsInTurn};
 
 use crate::fault::{InFault, refused};
 use crate::new_file::{NotPut, put_file};
@@ -46,7 +47,8 @@ pub(crate) fn put_item(
     progress: &mut Progress,
 ) -> Result<bool, InFault>
     requires { IsReady volume.old.image item.now.dir progress.old }
-    ensures { OnOk result (Advances volume.old.image volume.new.image progress.new) }
+    ensures advances { OnOk result (Advances volume.old.image volume.new.image progress.new) }
+    ensures puts { OnOk result (PutsInTurn how.moment how.force volume.old volume.new) }
 {
     let Some(content) = content else {
         return put_directory(alloc, volume, item, how, progress);
@@ -70,7 +72,8 @@ fn put_directory(
     progress: &mut Progress,
 ) -> Result<bool, InFault>
     requires { IsReady volume.old.image item.now.dir progress.old }
-    ensures { OnOk result (Advances volume.old.image volume.new.image progress.new) }
+    ensures advances { OnOk result (Advances volume.old.image volume.new.image progress.new) }
+    ensures puts { OnOk result (PutsInTurn how.moment how.force volume.old volume.new) }
 {
     let entered = match enter_directory(volume, item.dir, item.name, how.force, how.moment) {
         Ok(entered) => entered,

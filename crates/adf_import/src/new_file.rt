@@ -9,11 +9,10 @@ ghost use Rattle.ados_model.specs.Stands.{Stands};
 ghost use Rattle.ados_model.specs.Keys.{HasDirectory, HasEntryKey, HasFileKey, HasKey};
 ghost use Rattle.ados_change.specs.NewBlocks.{KeepsRest};
 ghost use Rattle.ados_model.specs.Objects.{protection_of};
-ghost use Rattle.adf_import.specs.Changes.{Changes, described, filled};
-ghost use Rattle.adf_import.specs.InTurn.{KeepsInTurn};
-ghost use Rattle.adf_import.specs.Put.{KeepsKeys, put, put_refusal};
+ghost use Rattle.adf_import.specs.Changes.{ChangesTree, cut_back, described, describing, filled, filling};
+ghost use Rattle.adf_import.specs.InTurn.{GoesThrough};
+ghost use Rattle.adf_import.specs.Put.{KeepsKeys, put, put_refusal, putting};
 ghost use Rattle.adf_import.specs.Refusals.{more_blocks, replace_refusal};
-ghost use Rattle.adf_import.specs.steps.CutBack.{cut_back};
 ghost use Rattle.adf_import.specs.declared.new_file.NotPut.TheVariants.{NoRoom};
 
 use crate::room::{more_blocks, new_file_blocks};
@@ -54,10 +53,10 @@ pub fn put_file(
     moment: Date3,
 ) -> Result<u32, NotPut>
     requires { HasDirectory volume.old.image dir }
-    ensures put { Changes (put_refusal dir name (length file.now.bytes.now) force) (λ key t. put moment dir name file.now key t) volume.old volume.new result }
+    ensures put { ChangesTree (put_refusal dir name (length file.now.bytes.now) force) (λ key t. put moment dir name file.now key t) volume.old volume.new result }
     ensures unused { IfOk result (λ key. (t : Tree) → Stands volume.old.image t → child_of t dir name ≡ None → IsUnused t key) }
+    ensures goes { IfOk result (λ key. (t : Tree) → Stands volume.old.image t → GoesThrough (putting moment dir name file.now key t) volume.old.image volume.new.image) }
     ensures keys { OnOk result (KeepsKeys volume.old.image volume.new.image) }
-    ensures keeps { KeepsInTurn volume.old.image volume.new.image }
     ensures validated { volume.new.was_validated ≡ volume.old.was_validated }
 {
     prove!(volume.image().blocks() >= 16);
@@ -94,8 +93,8 @@ pub fn replace_file(
     moment: Date3,
 ) -> Result<(), NotPut>
     requires { HasKey volume.old.image key }
-    ensures done { Changes (replace_refusal key (length file.now.bytes.now) force) (λ _ t. filled moment key file.now t) volume.old volume.new result }
-    ensures keeps { KeepsInTurn volume.old.image volume.new.image }
+    ensures done { ChangesTree (replace_refusal key (length file.now.bytes.now) force) (λ _ t. filled moment key file.now t) volume.old volume.new result }
+    ensures goes { OnOk result (GoesThrough (filling moment key file.now) volume.old.image volume.new.image) }
     ensures validated { volume.new.was_validated ≡ volume.old.was_validated }
 {
     if !volume.is_file(key) {
@@ -141,7 +140,7 @@ fn fill(volume: &mut Volume, key: u32, file: &NewFile<'_>, moment: Date3)
     requires key { HasFileKey volume.old.image key }
     requires room { (t : Tree) → Stands volume.old.image t → more_blocks t key (length file.now.bytes.now) ≤ free t }
     ensures stands { (t : Tree) → Stands volume.old.image t → Stands volume.new.image (filled moment key file.now t) }
-    ensures keeps { KeepsInTurn volume.old.image volume.new.image }
+    ensures goes { GoesThrough (filling moment key file.now) volume.old.image volume.new.image }
     ensures validated { volume.new.was_validated ≡ volume.old.was_validated }
 {
     prove!(volume.image().blocks() >= 16);
@@ -171,7 +170,7 @@ pub(crate) fn describe(volume: &mut Volume, key: u32, file: &NewFile<'_>, moment
     requires { HasEntryKey volume.old.image key }
     ensures stands { (t : Tree) → Stands volume.old.image t → Stands volume.new.image (described moment key file.now t) }
     ensures keys { KeepsKeys volume.old.image volume.new.image }
-    ensures keeps { KeepsInTurn volume.old.image volume.new.image }
+    ensures goes { GoesThrough (describing moment key file.now) volume.old.image volume.new.image }
     ensures validated { volume.new.was_validated ≡ volume.old.was_validated }
 {
     prove!(volume.image().blocks() >= 16);

@@ -1,9 +1,9 @@
 //! The progress of putting files and directories of the host into a volume.
 
-ghost use Rattle.std.specs.Prelude.{◌≡◌, List, ℕ, IfOk, OnOk};
+ghost use Rattle.std.specs.Prelude.{◌≡◌, Bool, List, ℕ, IfOk, OnOk};
 ghost use Rattle.ados_model.specs.Keys.{HasEntryKey};
 ghost use Rattle.adf_import.specs.Progress.{IsProgress, IsReady};
-ghost use Rattle.adf_import.specs.Put.{KeepsKeys};
+ghost use Rattle.adf_import.specs.Put.{KeepsKeys, PutsInTurn};
 
 use crate::new_file::describe;
 use crate::put::noted_file;
@@ -92,7 +92,8 @@ impl Progress {
     /// Sets the metadata of the new directories.
     pub fn note_directories(self, volume: &mut Volume, moment: Date3)
         requires { IsProgress volume.old.image self }
-        ensures { KeepsKeys volume.old.image volume.new.image }
+        ensures keys { KeepsKeys volume.old.image volume.new.image }
+        ensures puts { (force : Bool) → PutsInTurn moment force volume.old volume.new }
     {
         for made in self.made.iter() {
             let note = noted_file(&[], &made.noted);

@@ -4,8 +4,7 @@ ghost use Rattle.std.specs.Prelude.{◌≡◌, ◌++◌, false, IfOk, OnOk};
 ghost use Rattle.ados_model.specs.Tree.{Tree, entries};
 ghost use Rattle.ados_model.specs.Stands.{Stands};
 ghost use Rattle.ados_model.specs.Keys.{HasEntryKey, HasKey};
-ghost use Rattle.adf_import.specs.InTurn.{KeepsInTurn};
-ghost use Rattle.adf_import.specs.Pruned.{AreKeysBelow, IsDeniedEntry, Prunes, pruned};
+ghost use Rattle.adf_import.specs.Pruned.{AreKeysBelow, IsDeniedEntry, Prunes, RemovesInTurn, pruned};
 
 use ados_model::DosError;
 use ados_name::Date3;
@@ -26,7 +25,6 @@ pub fn delete_all(
 ) -> Result<(), DosError>
     requires { HasKey volume.old.image key }
     ensures done { Prunes moment key force volume.old volume.new result }
-    ensures keeps { KeepsInTurn volume.old.image volume.new.image }
     ensures validated { volume.new.was_validated ≡ volume.old.was_validated }
 {
     if key == volume.root() {
@@ -109,7 +107,7 @@ fn remove_all(volume: &mut Volume, key: u32, mut below: Vec<u32>, moment: Date3)
     requires entry { HasEntryKey volume.old.image key }
     requires below { (t : Tree) → Stands volume.old.image t → AreKeysBelow t key below.items }
     ensures stands { (t : Tree) → Stands volume.old.image t → Stands volume.new.image (pruned moment key t) }
-    ensures keeps { KeepsInTurn volume.old.image volume.new.image }
+    ensures goes { RemovesInTurn moment key volume.old.image volume.new.image }
     ensures validated { volume.new.was_validated ≡ volume.old.was_validated }
 {
     prove!(volume.image().blocks() >= 16);

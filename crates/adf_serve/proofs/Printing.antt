@@ -27,10 +27,11 @@ use Rattle.adf_serve.specs.declared.refusal.Refusal.{Refusal}
 use Rattle.adf_serve.specs.declared.refusal.DosRefusal.{DosRefusal}
 use Rattle.adf_serve.specs.Asked.{AnswersDisk}
 use Rattle.adf_serve.specs.Texts.{AreEntryBlocks, BeginsJobText, BeginsListOf, BeginsListText, IsJobText, IsListed, IsListOf, IsListText, shown_form, IsLook, IsLookText, IsInfoText, IsPrintText}
-use Rattle.adf_serve.specs.Faults.{IsBlankFault, IsNoImage, IsNoImageRefusal, IsNoRefusal, IsRefusedFor, IsToldAs, IsToldOut}
+use Rattle.adf_serve.specs.Faults.{IsBlankFault, IsNoImage, IsNoImageRefusal, IsNoRefusal, IsRefusedFor, IsToldAs, IsToldOut, IsUnread}
 use Rattle.adf_serve.specs.Commands.{Does, DoesJob, Ending, EndsJob, EndsOff, LeavesOff, Prints, prints, prints_json, Tells, TellsFault, TellsMade, TellsJob, TellsOf, TellsSome}
-use Rattle.adf_serve.specs.Commands.Prints.{OnlyFaults, OfMade, OfBlocks, OfBytes, OfDeleted, OfImages, OfMap, OfRescue, Unsaid}
-use Rattle.adf_serve.specs.NewImages.{IsMade, Made, PutsImage, PutsMade, WritesImage, WritesMade}
+use Rattle.adf_serve.specs.Commands.Prints.{OnlyFaults, OfMade, OfBlocks, OfBytes, OfClients, OfDeleted, OfImages, OfMap, OfRescue}
+use Rattle.adf_serve.specs.NewImages.{IsMade, IsNew, IsUnmade, Made, PutsMade, WritesMade}
+use Rattle.adf_serve.specs.NewImages.Made.{ABlank, ABooted, ABootBlock, ABundled, AChanged}
 use Rattle.std.proofs.lemmas.List.{append-nil}
 use Rattle.adf_archive.specs.Archive.{told_in}
 use Rattle.adf_archive.specs.declared.fault.ArchiveFault.{ArchiveFault}
@@ -43,6 +44,7 @@ use Rattle.adf_cli.specs.declared.query.ListOrder.{ListOrder}
 use Rattle.adf_cli.specs.declared.query.MapJob.{MapJob}
 use Rattle.adf_cli.specs.declared.query.WhereJob.{WhereJob}
 use Rattle.adf_block.specs.Image.{block_count}
+use Rattle.adf_block.specs.Whole.{IsImage}
 use Rattle.adf_where.specs.Faulty.{IsFaultyWhere}
 use Rattle.adf_where.specs.Own.{IsWhereOf}
 use Rattle.adf_where.specs.Where.{IsWhere, IsWhereFault, LeavesWhere}
@@ -58,6 +60,7 @@ use Rattle.adf_where.specs.FaultyMap.{IsFaultyMap}
 use Rattle.ados_faults.specs.Listed.{IsOtherKind}
 use Rattle.adf_serve.specs.Placed.{DoesWhere, IsBareRefusal, IsPlacedIn, IsUnasked, IsWhereText, LeavesPlaced, MayEnd}
 use Rattle.adf_serve.specs.Reports.{DoesReport, IsSomeText, TellsReport}
+use Rattle.adf_serve.proofs.Clients.{serve_failed, serve_unsaid}
 use Rattle.adf_serve.specs.Rescues.{IsHostEnd, IsMendedAs, IsMendedFor, IsRescueText, IsSomeSize, told_all}
 use Rattle.adf_serve.specs.Unread.{AreMarksOf}
 use Rattle.adf_serve.specs.Refusals.{dos_text, IsDosText, IsImageRefusal, IsRefusalText, IsSizeRefusal, refusal_text, told_line}
@@ -110,7 +113,7 @@ tells_unlisted IsText BeginsText image w fault (Err told) plain same = leaves_ke
 -- nothing is written if no image was read
 no_image : (BeginsText : List ℕ → List ℕ → Type 0) (w : Option (List ℕ)) (fault : CommandFault) → IsNoImage fault → (bytes : List ℕ) × LeavesOff (BeginsText bytes) bytes w w fault
 no_image BeginsText w (Refused refusal) (bytes, is) = (bytes, (inl is, Keeps-refl w))
-no_image BeginsText w (Dos refusal) is = ([], Keeps-refl w)
+no_image BeginsText w (Dos refusal) is = absurd is
 no_image BeginsText w fault is = ([], inl (Keeps-refl w))
 
 pub tells_no_image : (IsText BeginsText : List ℕ → List ℕ → Type 0) (w : Option (List ℕ)) (fault : CommandFault) (done : Ending) → IsNoImage fault
@@ -123,11 +126,6 @@ blank_plain : (s : Bool) (blocks : ℕ) (word : List ℕ) (fault : CommandFault)
 blank_plain s blocks word (Refused refusal) e = absurd (cc e)
 blank_plain s blocks word (Dos refusal) e = absurd (cc e)
 blank_plain s blocks word fault e = refl
-
-pub blank_no_refusal : (s : Bool) (blocks : ℕ) (word : List ℕ) (fault : CommandFault) (done : Ending) → IsBlankFault s blocks word fault
-    → IsErrAnd done (λ told. told ≡ fault) → IfErr done IsNoRefusal
-blank_no_refusal s blocks word fault (Ok x) e same = tt
-blank_no_refusal s blocks word fault (Err told) e same = subst IsNoRefusal (sym same) (blank_plain s blocks word fault e)
 
 pub accepted_tree : (image : List ℕ) (was_validated : Bool) (checked : List ℕ) → Accepts image was_validated checked → (t : Tree) × Stands checked t
 accepted_tree image false checked a = (a.3.0, a.3.1)
@@ -143,11 +141,11 @@ module _ (image : List ℕ) (job : ListJob) (styled : Bool) (form : ListForm) (s
   abbrev asked_path : Option (List ℕ)
   asked_path = option_map (λ (word : Bor (List ℕ)). word.now) job.path
 
-  pub list_asked : Writes old new (IsListText asked_path form job.order image) → Writes old new (IsListOf job image)
-  list_asked (text, written, is) = (text, written, (styled, subst (λ (f : ListForm). IsListText asked_path f job.order image text) same is))
+  pub list_asked : Writes old new (IsListText asked_path form job.order image) → Writes old new (IsListOf styled job image)
+  list_asked = subst (λ (f : ListForm). Writes old new (IsListText asked_path f job.order image)) same
 
-  pub front_asked : WritesFrontOf old new (BeginsListText asked_path form job.order image) → WritesFrontOf old new (BeginsListOf job image)
-  front_asked (text, is, written) = (text, (styled, subst (λ (f : ListForm). BeginsListText asked_path f job.order image text) same is), written)
+  pub front_asked : WritesFrontOf old new (BeginsListText asked_path form job.order image) → WritesFrontOf old new (BeginsListOf styled job image)
+  front_asked = subst (λ (f : ListForm). WritesFrontOf old new (BeginsListText asked_path f job.order image)) same
 
 -- for an accepted image
 module _ (image : List ℕ) (was_validated : Bool) (checked : List ℕ) (a : Accepts image was_validated checked) where
@@ -168,8 +166,8 @@ module _ (image : List ℕ) (was_validated : Bool) (checked : List ℕ) (a : Acc
       let s = accepted_tree image was_validated checked a in
       let w = h s.0 s.1 in (bytes_of s.0 w.0, w.3, (was_validated, checked, s.0, a, s.1, (w.0, w.1, w.2, refl)))
 
-  pub looked : (json : Bool) (text : List ℕ) → ((t : Tree) → Stands checked t → IsLook json was_validated checked t text) → IsLookText json image text
-  looked json text is =
+  pub looked : (styled json : Bool) (text : List ℕ) → ((t : Tree) → Stands checked t → IsLook styled json was_validated checked t text) → IsLookText styled json image text
+  looked styled json text is =
       let s = accepted_tree image was_validated checked a in (was_validated, checked, s.0, a, s.1, is s.0 s.1)
 
   -- the owners of blocks, written whole, or as far as the writer accepts them
@@ -227,35 +225,83 @@ kept_appends (Some x) None c bytes k w = absurd k
 kept_appends (Some x) (Some y) None bytes k w = absurd w
 kept_appends (Some x) (Some y) (Some z) bytes k w = w ∙ ap (λ (l : List ℕ). l ++ bytes) k
 
+-- why nothing is made: no image was read, it is refused, or the fault has no text
+pub unread_unmade : (made : Made) (fault : CommandFault) → IsUnread fault → IsUnmade made fault
+unread_unmade made (Refused refusal) is = is
+unread_unmade made (Dos refusal) is = absurd is
+unread_unmade made fault is = tt
+
+pub size_unread : (fault : CommandFault) → IsNoImage fault → IsUnread fault
+size_unread (Refused refusal) is = (is.0, inl is.1)
+size_unread fault is = is
+
+pub refused_unread : (image : List ℕ) (fault : CommandFault) → IsRefusedFor image fault → IsUnread fault
+refused_unread image (Refused refusal) is = (image, inr is)
+refused_unread image (Dos refusal) is = absurd (cc is)
+refused_unread image fault is = subst IsUnread (sym is) tt
+
+pub plain_unmade : (made : Made) (fault : CommandFault) → IsNoRefusal fault → IsUnmade made fault
+plain_unmade made (Refused refusal) plain = absurd (cc plain)
+plain_unmade made (Dos refusal) plain = absurd (cc plain)
+plain_unmade made fault plain = tt
+
 -- a fault before any output
-pub none_put : (made : Made) (w : Option (List ℕ)) (fault : CommandFault) → WritesMade made w w (Err fault)
+none_put : (made : Made) (w : Option (List ℕ)) (fault : CommandFault) → WritesMade made w w (Err fault)
 none_put made w (Refused refusal) = Keeps-refl w
 none_put made w (Dos refusal) = Keeps-refl w
 none_put made w fault = inl (Keeps-refl w)
 
-pub made_not_put : (made : Made) (file w : Option (List ℕ)) (fault : CommandFault) → PutsMade made file w w (Err fault)
-made_not_put made file w fault = (λ is. none_put made w fault, λ other. Keeps-refl w)
+pub made_not_put : (made : Made) (file w : Option (List ℕ)) (fault : CommandFault) → IsUnmade made fault → PutsMade made file w w (Err fault)
+made_not_put made file w fault why = record { output = λ is. none_put made w fault; other = λ other. Keeps-refl w; why = why }
 
 pub unput : (made : Made) (w : Option (List ℕ)) (fault : CommandFault) (done : Ending) → IsErrAnd done (λ told. told ≡ fault) → WritesMade made w w done
 unput made w fault (Ok x) same = absurd same
 unput made w fault (Err told) same = none_put made w told
 
-pub not_put : (made : Made) (file w : Option (List ℕ)) (fault : CommandFault) (done : Ending) → IsErrAnd done (λ told. told ≡ fault) → PutsMade made file w w done
-not_put made file w fault (Ok x) same = absurd same
-not_put made file w fault (Err told) same = made_not_put made file w told
+pub not_put : (made : Made) (file w : Option (List ℕ)) (fault : CommandFault) (done : Ending) → IsUnmade made fault → IsErrAnd done (λ told. told ≡ fault) → PutsMade made file w w done
+not_put made file w fault (Ok x) why same = absurd same
+not_put made file w fault (Err told) why same = made_not_put made file w told (subst (IsUnmade made) (sym same) why)
 
--- the file of the image is standard output, or another
-pub put_output : (made : Made) (file : List ℕ) (old new : Option (List ℕ)) (done : Ending) (is_output : Bool) → (IsTrue is_output ↔ (file ≡ codes "-")) → IsTrue is_output → WritesMade made old new done
-    → PutsMade made (Some file) old new done
-put_output made file old new done is_output same is_so put = (λ is. put, λ other. absurd (other (ap Some (same.0 is_so))))
+-- what is made is put; it fails without a text
+module _ (made : Made) (old new : Option (List ℕ)) (done : Ending) (plain : IfErr done IsNoRefusal) where
+  put_why : IfErr done (IsUnmade made)
+  put_why = go done plain
+    where
+      go : (done : Ending) → IfErr done IsNoRefusal → IfErr done (IsUnmade made)
+      go (Ok x) plain = tt
+      go (Err fault) plain = plain_unmade made fault plain
 
-pub put_file : (made : Made) (file : List ℕ) (w : Option (List ℕ)) (done : Ending) (is_output : Bool) → (IsTrue is_output ↔ (file ≡ codes "-")) → IsFalse is_output → PutsMade made (Some file) w w done
-put_file made file w done is_output same is_not = (λ is. absurd (let is_so = same.1 (cc is) in cc (sym is_not ∙ is_so)), λ other. Keeps-refl w)
+  -- the file of the image is standard output
+  pub put_output : (file : List ℕ) (is_output : Bool) → (IsTrue is_output ↔ (file ≡ codes "-")) → IsTrue is_output → WritesMade made old new done → PutsMade made (Some file) old new done
+  put_output file is_output same is_so put = record { output = λ is. put; other = λ other. absurd (other (ap Some (same.0 is_so))); why = put_why }
 
-pub put_work : (file old new : Option (List ℕ)) (done : Ending) (to_output : Bool) → (IsTrue to_output ↔ (file ≡ Some (codes "-"))) → (IsTrue to_output → WritesImage old new done)
-    → (IsFalse to_output → Keeps old new) → PutsImage file old new done
-put_work file old new done true same put keeps = (λ is. put refl, λ other. absurd (other (same.0 refl)))
-put_work file old new done false same put keeps = (λ is. absurd (cc (same.1 is)), λ other. keeps refl)
+  -- it is another
+  pub put_file : (file : List ℕ) (is_output : Bool) → (IsTrue is_output ↔ (file ≡ codes "-")) → IsFalse is_output → Keeps old new → PutsMade made (Some file) old new done
+  put_file file is_output same is_not keeps =
+      record { output = λ is. absurd (let is_so = same.1 (cc is) in cc (sym is_not ∙ is_so)); other = λ other. keeps; why = put_why }
+
+  -- it is one of these
+  pub put_work : (file : Option (List ℕ)) (image : List ℕ) (to_output : Bool) → IsNew made image → (IsTrue to_output ↔ (file ≡ Some (codes "-")))
+      → (IsTrue to_output → (m : Made) → IsNew m image → WritesMade m old new done) → (IsFalse to_output → Keeps old new) → PutsMade made file old new done
+  put_work file image true is same put keeps = record { output = λ so. put refl made is; other = λ other. absurd (other (same.0 refl)); why = put_why }
+  put_work file image false is same put keeps = record { output = λ so. absurd (cc (same.1 so)); other = λ other. keeps refl; why = put_why }
+
+pub blank_unmade : (made : Made) (s : Bool) (blocks : ℕ) (word : List ℕ) (fault : CommandFault) → IsBlankFault s blocks word fault → IsUnmade made fault
+blank_unmade made s blocks word fault is = plain_unmade made fault (blank_plain s blocks word fault is)
+
+-- a refusal by AmigaDOS may be the reason that nothing is made of a directory
+pub bundle_unmade : (fault : CommandFault) → IsNoImageRefusal fault → IsUnmade ABundled fault
+bundle_unmade (Refused refusal) is = absurd is
+bundle_unmade (Dos refusal) is = tt
+bundle_unmade fault is = tt
+
+-- an image is what is made, with what is after it in its file
+pub begins_made : (made : Made) (image rest : List ℕ) → IsNew made image → IsImage image → IsMade made (image ++ rest)
+begins_made (ABlank blank) image rest is whole = (image, rest, whole, is, refl)
+begins_made (AChanged job) image rest is whole = (image, rest, whole, is, refl)
+begins_made ABundled image rest is whole = (image, rest, whole, is, refl)
+begins_made (ABooted block) image rest is whole = (image, rest, whole, is, refl)
+begins_made ABootBlock image rest is whole = absurd is
 
 -- what is put as far as the writer accepts it
 made_front : (made : Made) (old new : Option (List ℕ)) (text : List ℕ) (fault : CommandFault) → IsMade made text → IsNoRefusal fault → WritesFront old new text → WritesMade made old new (Err fault)
@@ -394,7 +440,7 @@ module _ (IsText : Bool → List ℕ → Type 0) (IsPlain : Refusal → Type 0) 
   no_image_reported w NotWhole plain may is = absurd is
   no_image_reported w LeftOut plain may is = absurd is
   no_image_reported w (Refused refusal) plain may is = (Keeps-refl w, plain is.0 refusal is.1)
-  no_image_reported w (Dos refusal) plain may is = Keeps-refl w
+  no_image_reported w (Dos refusal) plain may is = absurd is
   no_image_reported w fault plain may is = (may is, inl (Keeps-refl w))
 
   pub reports_no_image : (w : Option (List ℕ)) (fault : CommandFault) (done : Ending) → ((bytes : List ℕ) (refusal : Refusal) → IsSizeRefusal bytes refusal → IsPlain refusal)
@@ -578,21 +624,21 @@ module _ (json : Bool) (IsText BeginsText : List ℕ → List ℕ → Type 0) wh
   -- a job succeeds
   done : (p : Prints) (old new : Option (List ℕ)) (x : Unit {0}) → Does p IsText BeginsText old new (Ok x) → Tells json p IsText BeginsText old new (Ok x)
   done OnlyFaults old new x h = h
-  done (OfMade made file) old new x h = h
+  done (OfMade made file) old new x h = (h.output, λ other. h.other other, tt)
   done OfBytes old new x h = h
   done (OfImages job) old new x h = h
   done (OfRescue job) old new x h = h
   done (OfDeleted job) old new x h = h
   done (OfBlocks job) old new x h = h
   done (OfMap form) old new x h = h
-  done Unsaid old new x h = tt
+  done (OfClients job) old new x h = h
 
   -- a job whose fault has no text
   failed : (p : Prints) (old new : Option (List ℕ)) (fault : CommandFault) → Does p IsText BeginsText old new (Err fault) → IsNoRefusal fault
       → Tells json p IsText BeginsText old new (Err fault)
   failed OnlyFaults old new fault keeps plain = rw (none_in json fault plain) (inl keeps)
-  failed (OfMade made file) old new fault (put, keeps) plain = (λ is. made_failed json made old new fault (put is) plain, λ other. rw (none_in json fault plain) (inl (keeps other)))
-  failed Unsaid old new fault h plain = tt
+  failed (OfMade made file) old new fault h plain = (λ is. made_failed json made old new fault (h.output is) plain, λ other. rw (none_in json fault plain) (inl (h.other other)), h.why)
+  failed (OfClients job) old new fault h plain = serve_failed job old new json fault h plain
   failed (OfImages job) old new fault h plain = h
   failed (OfRescue job) old new fault h plain = report_failed json (IsRescueText job (told_all (Err fault))) IsSomeSize (λ (fault : CommandFault). IsHostEnd fault job.list) old new fault h plain
   failed (OfDeleted job) old new fault h plain = report_failed json (IsDeletedText job) IsSomeSize IsUndeleteEnd old new fault h plain
@@ -606,8 +652,8 @@ module _ (json : Bool) (IsText BeginsText : List ℕ → List ℕ → Type 0) wh
   -- a job without memory for its text
   unsaid : (p : Prints) (old new : Option (List ℕ)) (fault : CommandFault) → Does p IsText BeginsText old new (Err fault) → Tells json p IsText BeginsText old new (Err Memory)
   unsaid OnlyFaults old new fault keeps = inl keeps
-  unsaid (OfMade made file) old new fault (put, keeps) = (λ is. made_unsaid json made old new fault (put is), λ other. inl (keeps other))
-  unsaid Unsaid old new fault h = tt
+  unsaid (OfMade made file) old new fault h = (λ is. made_unsaid json made old new fault (h.output is), λ other. inl (h.other other), tt)
+  unsaid (OfClients job) old new fault h = serve_unsaid job old new json fault h
   unsaid (OfImages job) old new fault h = archive_unsaid job old new fault h
   unsaid (OfRescue job) old new fault h =
       let all = told_all (Err fault) in
@@ -625,11 +671,12 @@ module _ (json : Bool) (IsText BeginsText : List ℕ → List ℕ → Type 0) wh
     told_refused : (p : Prints) (refusal : Refusal) → Does p IsText BeginsText old mid (Err (Refused refusal)) → Appends mid new (refusal_text json refusal)
         → Tells json p IsText BeginsText old new (Err (Refused refusal))
     told_refused OnlyFaults refusal keeps w = (refusal_text json refusal, kept_appends old mid new (refusal_text json refusal) keeps w, refl)
-    told_refused (OfMade made file) refusal (put, keeps) w = (
-      λ is. (refusal_text json refusal, kept_appends old mid new (refusal_text json refusal) (put is) w, refl),
-      λ other. (refusal_text json refusal, kept_appends old mid new (refusal_text json refusal) (keeps other) w, refl),
+    told_refused (OfMade made file) refusal h w = (
+      λ is. (refusal_text json refusal, kept_appends old mid new (refusal_text json refusal) (h.output is) w, refl),
+      λ other. (refusal_text json refusal, kept_appends old mid new (refusal_text json refusal) (h.other other) w, refl),
+      h.why,
     )
-    told_refused Unsaid refusal d w = tt
+    told_refused (OfClients job) refusal (is, keeps) w = (is, (refusal_text json refusal, kept_appends old mid new (refusal_text json refusal) keeps w, refl))
     told_refused (OfImages job) refusal d w = absurd d
     told_refused (OfRescue job) refusal (keeps, is) w = (is, (refusal_text json refusal, kept_appends old mid new (refusal_text json refusal) keeps w, refl))
     told_refused (OfDeleted job) refusal (keeps, is) w = (is, (refusal_text json refusal, kept_appends old mid new (refusal_text json refusal) keeps w, refl))
@@ -641,11 +688,12 @@ module _ (json : Bool) (IsText BeginsText : List ℕ → List ℕ → Type 0) wh
     told_dos : (p : Prints) (refusal : DosRefusal) → Does p IsText BeginsText old mid (Err (Dos refusal)) → Appends mid new (dos_text json refusal)
         → Tells json p IsText BeginsText old new (Err (Dos refusal))
     told_dos OnlyFaults refusal keeps w = (dos_text json refusal, kept_appends old mid new (dos_text json refusal) keeps w, refl)
-    told_dos (OfMade made file) refusal (put, keeps) w = (
-      λ is. (dos_text json refusal, kept_appends old mid new (dos_text json refusal) (put is) w, refl),
-      λ other. (dos_text json refusal, kept_appends old mid new (dos_text json refusal) (keeps other) w, refl),
+    told_dos (OfMade made file) refusal h w = (
+      λ is. (dos_text json refusal, kept_appends old mid new (dos_text json refusal) (h.output is) w, refl),
+      λ other. (dos_text json refusal, kept_appends old mid new (dos_text json refusal) (h.other other) w, refl),
+      h.why,
     )
-    told_dos Unsaid refusal d w = tt
+    told_dos (OfClients job) refusal d w = absurd d
     told_dos (OfImages job) refusal d w = absurd d
     told_dos (OfRescue job) refusal keeps w = (dos_text json refusal, kept_appends old mid new (dos_text json refusal) keeps w, refl)
     told_dos (OfDeleted job) refusal keeps w = (dos_text json refusal, kept_appends old mid new (dos_text json refusal) keeps w, refl)
@@ -671,11 +719,12 @@ module _ (json : Bool) (IsText BeginsText : List ℕ → List ℕ → Type 0) wh
     broken_refused : (p : Prints) (refusal : Refusal) → Does p IsText BeginsText old mid (Err (Refused refusal))
         → WritesFront mid new (refusal_text json refusal) → Tells json p IsText BeginsText old new (Err Output)
     broken_refused OnlyFaults refusal keeps front = broken_quiet (Refused refusal) Output (refusal_text json refusal) refl refl keeps front
-    broken_refused (OfMade made file) refusal (put, keeps) front = (
-      λ is. inr (refusal_text json refusal, inr (Refused refusal, refl), kept_front (refusal_text json refusal) (put is) front),
-      λ other. broken_quiet (Refused refusal) Output (refusal_text json refusal) refl refl (keeps other) front,
+    broken_refused (OfMade made file) refusal h front = (
+      λ is. inr (refusal_text json refusal, inr (Refused refusal, refl), kept_front (refusal_text json refusal) (h.output is) front),
+      λ other. broken_quiet (Refused refusal) Output (refusal_text json refusal) refl refl (h.other other) front,
+      tt,
     )
-    broken_refused Unsaid refusal d front = tt
+    broken_refused (OfClients job) refusal (is, keeps) front = inr (Refused refusal, refusal_text json refusal, refl, kept_front (refusal_text json refusal) keeps front)
     broken_refused (OfImages job) refusal d front = absurd d
     broken_refused (OfRescue job) refusal (keeps, is) front = (tt, inr (refusal_text json refusal, inr (Refused refusal, refl), kept_front (refusal_text json refusal) keeps front))
     broken_refused (OfDeleted job) refusal (keeps, is) front = (tt, inr (refusal_text json refusal, inr (Refused refusal, refl), kept_front (refusal_text json refusal) keeps front))
@@ -687,11 +736,12 @@ module _ (json : Bool) (IsText BeginsText : List ℕ → List ℕ → Type 0) wh
     broken_dos : (p : Prints) (refusal : DosRefusal) → Does p IsText BeginsText old mid (Err (Dos refusal))
         → WritesFront mid new (dos_text json refusal) → Tells json p IsText BeginsText old new (Err Output)
     broken_dos OnlyFaults refusal keeps front = broken_quiet (Dos refusal) Output (dos_text json refusal) refl refl keeps front
-    broken_dos (OfMade made file) refusal (put, keeps) front = (
-      λ is. inr (dos_text json refusal, inr (Dos refusal, refl), kept_front (dos_text json refusal) (put is) front),
-      λ other. broken_quiet (Dos refusal) Output (dos_text json refusal) refl refl (keeps other) front,
+    broken_dos (OfMade made file) refusal h front = (
+      λ is. inr (dos_text json refusal, inr (Dos refusal, refl), kept_front (dos_text json refusal) (h.output is) front),
+      λ other. broken_quiet (Dos refusal) Output (dos_text json refusal) refl refl (h.other other) front,
+      tt,
     )
-    broken_dos Unsaid refusal d front = tt
+    broken_dos (OfClients job) refusal d front = absurd d
     broken_dos (OfImages job) refusal d front = absurd d
     broken_dos (OfRescue job) refusal keeps front = (tt, inr (dos_text json refusal, inr (Dos refusal, refl), kept_front (dos_text json refusal) keeps front))
     broken_dos (OfDeleted job) refusal keeps front = (tt, inr (dos_text json refusal, inr (Dos refusal, refl), kept_front (dos_text json refusal) keeps front))
@@ -701,42 +751,42 @@ module _ (json : Bool) (IsText BeginsText : List ℕ → List ℕ → Type 0) wh
         (bytes, ends_front bytes Output refl (dos_text json refusal, inr (inr (refusal, refl)), kept_front (dos_text json refusal) keeps front))
 
 -- the fault of a job with this text
-module _ (job : ImageJob) (old mid new : Option (List ℕ)) (line : List ℕ) where
+module _ (styled : Bool) (job : ImageJob) (old mid new : Option (List ℕ)) (line : List ℕ) where
   abbrev json : Bool
   json = prints_json job
 
   -- the line is written
-  pub job_told : (fault : CommandFault) → told_line json fault ≡ Some line → DoesJob job old mid (Err fault) → Appends mid new line → TellsJob job old new (Err fault)
+  pub job_told : (fault : CommandFault) → told_line json fault ≡ Some line → DoesJob styled job old mid (Err fault) → Appends mid new line → TellsJob styled job old new (Err fault)
   job_told (Refused refusal) tells h w =
       let same : line ≡ refusal_text json refusal = cc tells in
-      told_refused json (IsJobText job) (BeginsJobText job) old mid new (prints job) refusal h (subst (λ (l : List ℕ). Appends mid new l) same w)
+      told_refused json (IsJobText styled job) (BeginsJobText styled job) old mid new (prints job) refusal h (subst (λ (l : List ℕ). Appends mid new l) same w)
   job_told (Dos refusal) tells h w =
       let same : line ≡ dos_text json refusal = cc tells in
-      told_dos json (IsJobText job) (BeginsJobText job) old mid new (prints job) refusal h (subst (λ (l : List ℕ). Appends mid new l) same w)
+      told_dos json (IsJobText styled job) (BeginsJobText styled job) old mid new (prints job) refusal h (subst (λ (l : List ℕ). Appends mid new l) same w)
   job_told fault tells h w = absurd (cc tells)
 
   -- the line is written as far as the writer accepts it
-  broken : (fault : CommandFault) → told_line json fault ≡ Some line → DoesJob job old mid (Err fault) → WritesFront mid new line → TellsJob job old new (Err Output)
+  broken : (fault : CommandFault) → told_line json fault ≡ Some line → DoesJob styled job old mid (Err fault) → WritesFront mid new line → TellsJob styled job old new (Err Output)
   broken (Refused refusal) tells h front =
       let same : line ≡ refusal_text json refusal = cc tells in
-      broken_refused json (IsJobText job) (BeginsJobText job) old mid new (prints job) refusal h (subst (λ (l : List ℕ). WritesFront mid new l) same front)
+      broken_refused json (IsJobText styled job) (BeginsJobText styled job) old mid new (prints job) refusal h (subst (λ (l : List ℕ). WritesFront mid new l) same front)
   broken (Dos refusal) tells h front =
       let same : line ≡ dos_text json refusal = cc tells in
-      broken_dos json (IsJobText job) (BeginsJobText job) old mid new (prints job) refusal h (subst (λ (l : List ℕ). WritesFront mid new l) same front)
+      broken_dos json (IsJobText styled job) (BeginsJobText styled job) old mid new (prints job) refusal h (subst (λ (l : List ℕ). WritesFront mid new l) same front)
   broken fault tells h front = absurd (cc tells)
 
-  pub job_broken : (fault last : CommandFault) → told_line json fault ≡ Some line → DoesJob job old mid (Err fault) → WritesFront mid new line → last ≡ Output → TellsJob job old new (Err last)
-  job_broken fault last tells h front output = subst (λ (f : CommandFault). TellsJob job old new (Err f)) (sym output) (broken fault tells h front)
+  pub job_broken : (fault last : CommandFault) → told_line json fault ≡ Some line → DoesJob styled job old mid (Err fault) → WritesFront mid new line → last ≡ Output → TellsJob styled job old new (Err last)
+  job_broken fault last tells h front output = subst (λ (f : CommandFault). TellsJob styled job old new (Err f)) (sym output) (broken fault tells h front)
 
 -- a job whose fault has no text
-pub job_failed : (job : ImageJob) (old new : Option (List ℕ)) (fault : CommandFault) → DoesJob job old new (Err fault) → IsNoRefusal fault → TellsJob job old new (Err fault)
-job_failed job old new fault h plain = failed (prints_json job) (IsJobText job) (BeginsJobText job) (prints job) old new fault h plain
+pub job_failed : (styled : Bool) (job : ImageJob) (old new : Option (List ℕ)) (fault : CommandFault) → DoesJob styled job old new (Err fault) → IsNoRefusal fault → TellsJob styled job old new (Err fault)
+job_failed styled job old new fault h plain = failed (prints_json job) (IsJobText styled job) (BeginsJobText styled job) (prints job) old new fault h plain
 
 -- a job without memory for its text
-pub job_unsaid : (job : ImageJob) (old new : Option (List ℕ)) (fault last : CommandFault) → DoesJob job old new (Err fault) → last ≡ Memory → TellsJob job old new (Err last)
-job_unsaid job old new fault last h same =
-    subst (λ (f : CommandFault). TellsJob job old new (Err f)) (sym same) (unsaid (prints_json job) (IsJobText job) (BeginsJobText job) (prints job) old new fault h)
+pub job_unsaid : (styled : Bool) (job : ImageJob) (old new : Option (List ℕ)) (fault last : CommandFault) → DoesJob styled job old new (Err fault) → last ≡ Memory → TellsJob styled job old new (Err last)
+job_unsaid styled job old new fault last h same =
+    subst (λ (f : CommandFault). TellsJob styled job old new (Err f)) (sym same) (unsaid (prints_json job) (IsJobText styled job) (BeginsJobText styled job) (prints job) old new fault h)
 
 -- a job that succeeds
-pub job_done : (job : ImageJob) (old new : Option (List ℕ)) (x : Unit {0}) → DoesJob job old new (Ok x) → EndsJob job old new 0
-job_done job old new x h = (Ok x, done (prints_json job) (IsJobText job) (BeginsJobText job) (prints job) old new x h, refl)
+pub job_done : (styled : Bool) (job : ImageJob) (old new : Option (List ℕ)) (x : Unit {0}) → DoesJob styled job old new (Ok x) → EndsJob styled job old new 0
+job_done styled job old new x h = (Ok x, done (prints_json job) (IsJobText styled job) (BeginsJobText styled job) (prints job) old new x h, refl)

@@ -1,5 +1,5 @@
 -- How a command ends, by the bytes of the image that it reads and by its output.
-use Rattle.std.specs.Prelude.{◌≡◌, ◌≢◌, ◌⊎◌, ⊤, codes, ℕ, Bool, true, false, List, Option, Some, Result, Ok, Err, MatchOption, MatchResult}
+use Rattle.std.specs.Prelude.{◌≡◌, ◌≢◌, ◌⊎◌, codes, ℕ, Bool, true, false, List, Option, Some, Result, Ok, Err, MatchOption, MatchResult, IfErr}
 use Rattle.std.specs.Io.KnownBytes.{Keeps}
 use Rattle.adf_io.specs.Prefix.{Writes, WritesFrontOf}
 use Rattle.adf_cli.specs.declared.job.ImageJob.{ImageJob}
@@ -12,16 +12,18 @@ use Rattle.adf_cli.specs.declared.query.CheckJob.{CheckJob}
 use Rattle.adf_cli.specs.declared.query.MapJob.{MapJob}
 use Rattle.adf_cli.specs.declared.query.SalvageJob.{SalvageJob}
 use Rattle.adf_cli.specs.declared.query.UndeleteJob.{UndeleteJob}
+use Rattle.adf_cli.specs.declared.job.ServeJob.{ServeJob}
 use Rattle.adf_cli.specs.declared.query.WhereJob.{WhereJob}
 use Rattle.adf_serve.specs.declared.fault.CommandFault.{CommandFault}
 use Rattle.adf_serve.specs.declared.fault.CommandFault.TheVariants.{Dos, Refused}
 use Rattle.adf_serve.specs.Archives.{EndsArchive}
 use Rattle.adf_serve.specs.Deleted.{DoesUndelete, TellsUndelete}
 use Rattle.adf_serve.specs.Mapped.{DoesMap, TellsMap}
-use Rattle.adf_serve.specs.NewImages.{IsMade, Made, PutsMade, out_of}
-use Rattle.adf_serve.specs.NewImages.Made.{ABootBlock, AnImage}
+use Rattle.adf_serve.specs.NewImages.{IsMade, IsUnmade, Made, PutsMade, out_of}
+use Rattle.adf_serve.specs.NewImages.Made.{ABlank, ABooted, ABootBlock, ABundled, AChanged}
 use Rattle.adf_serve.specs.Placed.{DoesWhere, TellsWhere}
 use Rattle.adf_serve.specs.Rescues.{DoesRescue, TellsRescue}
+use Rattle.adf_serve.specs.Served.{DoesServe, TellsServe}
 use Rattle.adf_serve.specs.Texts.{BeginsJobText, IsJobText}
 use Rattle.adf_serve.specs.Faults.{status_of}
 use Rattle.adf_serve.specs.Refusals.{IsDosText, IsRefusalOf, IsRefusalText, dos_text, refusal_text, told_line}
@@ -68,9 +70,8 @@ prints_json (Check job) = job.json
 prints_json (Salvage job) = job.json
 prints_json job = false
 
--- the kind of a job's output: only the text of its fault; what it makes, if its file is `-`; a text for the
--- bytes of its file; the reports on checked images; the report on a rescue; what is told of deleted entries, or of blocks; a map; or
--- output without a promise
+-- the kind of a job's output: only the text of its fault; what it makes, if its file is `-`; a text for the bytes of its file; the
+-- reports on checked images; the report on a rescue; what is printed of deleted entries, or of blocks; a map; or the texts of clients
 pub data Prints : Type 0 where
   OnlyFaults : Prints
   OfMade : Made → Option (List ℕ) → Prints
@@ -80,7 +81,7 @@ pub data Prints : Type 0 where
   OfDeleted : UndeleteJob → Prints
   OfBlocks : WhereJob → Prints
   OfMap : MapJob → Prints
-  Unsaid : Prints
+  OfClients : ServeJob → Prints
 
 abbrev pub prints : ImageJob → Prints
 prints (Check job) = OfImages job
@@ -90,12 +91,13 @@ prints (Where job) = OfBlocks job
 prints (Map job) = OfMap job
 prints (Extract job) = OnlyFaults
 prints (ExtractBundle image to) = OnlyFaults
-prints (Blank format blocks moment name letters file) = OfMade AnImage (Some file.now)
-prints (AddBundle target from) = OfMade AnImage (out_of target)
-prints (Change job) = OfMade AnImage (out_of job.target)
-prints (Boot target block) = OfMade AnImage (out_of target)
+prints (Blank format blocks moment name letters file) =
+    OfMade (ABlank (record { format = format; blocks = blocks; moment = moment; name = name; letters = letters })) (Some file.now)
+prints (AddBundle target from) = OfMade ABundled (out_of target)
+prints (Change job) = OfMade (AChanged job) (out_of job.target)
+prints (Boot target block) = OfMade (ABooted block) (out_of target)
 prints (SaveBoot image file) = OfMade ABootBlock (Some file.now)
-prints (Serve job) = Unsaid
+prints (Serve job) = OfClients job
 prints job = OfBytes
 
 -- the result of such a job before a refusal is printed
@@ -108,10 +110,10 @@ Does (OfRescue job) IsText BeginsText old new result = DoesRescue job old new re
 Does (OfDeleted job) IsText BeginsText old new result = DoesUndelete job old new result
 Does (OfBlocks job) IsText BeginsText old new result = DoesWhere job old new result
 Does (OfMap job) IsText BeginsText old new result = DoesMap job old new result
-Does Unsaid IsText BeginsText old new result = ⊤
+Does (OfClients job) IsText BeginsText old new result = DoesServe job old new result
 
-abbrev pub DoesJob : ImageJob → Option (List ℕ) → Option (List ℕ) → Ending → Type 0
-DoesJob job = Does (prints job) (IsJobText job) (BeginsJobText job)
+abbrev pub DoesJob : (styled : Bool) → ImageJob → Option (List ℕ) → Option (List ℕ) → Ending → Type 0
+DoesJob styled job = Does (prints job) (IsJobText styled job) (BeginsJobText styled job)
 
 -- a fault ends a command: a refusal of the bytes is printed, in the form of its output; otherwise nothing is written, or a prefix
 -- of its text or of that of a refusal
@@ -145,29 +147,30 @@ EndsSome json IsText BeginsText old new result =
 abbrev pub Tells : (json : Bool) → Prints → (IsText BeginsText : List ℕ → List ℕ → Type 0) → Option (List ℕ) → Option (List ℕ) → Ending → Type 0
 Tells json OnlyFaults IsText BeginsText old new result = TellsFault json old new result
 Tells json (OfMade made file) IsText BeginsText old new result =
-    (file ≡ Some (codes "-") → TellsMade json made old new result) × (file ≢ Some (codes "-") → TellsFault json old new result)
+    (file ≡ Some (codes "-") → TellsMade json made old new result) × (file ≢ Some (codes "-") → TellsFault json old new result) × IfErr result (IsUnmade made)
 Tells json OfBytes IsText BeginsText old new result = EndsSome json IsText BeginsText old new result
 Tells json (OfImages job) IsText BeginsText old new result = EndsArchive job old new result
 Tells json (OfRescue job) IsText BeginsText old new result = TellsRescue json job old new result
 Tells json (OfDeleted job) IsText BeginsText old new result = TellsUndelete json job old new result
 Tells json (OfBlocks job) IsText BeginsText old new result = TellsWhere json job old new result
 Tells json (OfMap job) IsText BeginsText old new result = TellsMap json job old new result
-Tells json Unsaid IsText BeginsText old new result = ⊤
+Tells json (OfClients job) IsText BeginsText old new result = TellsServe json job old new result
 
--- the result of a job
-abbrev pub TellsJob : ImageJob → Option (List ℕ) → Option (List ℕ) → Ending → Type 0
-TellsJob job = Tells (prints_json job) (prints job) (IsJobText job) (BeginsJobText job)
+-- the result of a job, with bold letters for people if `styled`
+abbrev pub TellsJob : (styled : Bool) → ImageJob → Option (List ℕ) → Option (List ℕ) → Ending → Type 0
+TellsJob styled job = Tells (prints_json job) (prints job) (IsJobText styled job) (BeginsJobText styled job)
 
 abbrev pub exit_status : Ending → ℕ
 exit_status (Ok done) = 0
 exit_status (Err fault) = status_of fault
 
 -- a job ends with this output and this exit status
-abbrev pub EndsJob : ImageJob → Option (List ℕ) → Option (List ℕ) → ℕ → Type 0
-EndsJob job old new status = (done : Ending) × TellsJob job old new done × (status ≡ exit_status done)
+abbrev pub EndsJob : (styled : Bool) → ImageJob → Option (List ℕ) → Option (List ℕ) → ℕ → Type 0
+EndsJob styled job old new status = (done : Ending) × TellsJob styled job old new done × (status ≡ exit_status done)
 
--- a command line ends with this status: some job ended like this; or there was no job, and nothing is printed
-abbrev pub RunsCommand : ℕ → Option (List ℕ) → Option (List ℕ) → Type 0
-RunsCommand status old new =
-    ((job : ImageJob) × EndsJob job old new status)
+-- a command line ends with this status: some job ended like this, with bold letters only on a terminal; or there was no job, and
+-- nothing is printed
+abbrev pub RunsCommand : (terminal : Bool) → ℕ → Option (List ℕ) → Option (List ℕ) → Type 0
+RunsCommand terminal status old new =
+    ((job : ImageJob) × (styled : Bool) × (styled ≡ true → terminal ≡ true) × EndsJob styled job old new status)
     ⊎ (Keeps old new × ((status ≡ 1) ⊎ (status ≡ 2)))

@@ -1,5 +1,5 @@
 -- The messages of commands' faults, and their exit statuses.
-use Rattle.std.specs.Prelude.{◌≡◌, ◌≢◌, ⊤, ℕ, Bool, true, false, List, None}
+use Rattle.std.specs.Prelude.{◌≡◌, ◌≢◌, ◌⊎◌, ⊤, ℕ, Bool, true, false, List, None}
 use Rattle.adf_block.specs.Whole.{IsSize}
 use Rattle.ados_name.specs.Name.{IsName}
 use Rattle.ados_model.specs.declared.fault.FaultKind.TheVariants.{NoMemory}
@@ -8,9 +8,9 @@ use Rattle.adf_text.specs.Letters.{letters as letter_text}
 use Rattle.adf_export.specs.declared.fault.OutFault.{OutFault}
 use Rattle.adf_export.specs.declared.fault.OutFault.TheVariants as out
 use Rattle.adf_serve.specs.declared.fault.CommandFault.{CommandFault}
-use Rattle.adf_serve.specs.declared.fault.CommandFault.TheVariants.{Bitmap, Blocks, Dos, Endless, Extracted, Letter, LongBoot, LongList, Memory, Name, NoBlock, ImagesRefused, LeftOut, NotWhole, OneImage, OtherVolume, Output, Read, Refused, Script, Undelete}
+use Rattle.adf_serve.specs.declared.fault.CommandFault.TheVariants.{Bitmap, Blocks, Dos, Endless, Extracted, Letter, LongBoot, LongList, Memory, Name, NoBlock, ImagesRefused, LeftOut, NotWhole, OneImage, OtherVolume, Output, Read, Refused, Script, Thread, Tries, Undelete}
 use Rattle.adf_archive.specs.Words.{kind_word}
-use Rattle.adf_serve.specs.Refusals.{IsImageRefusal, IsSizeRefusal, told_line}
+use Rattle.adf_serve.specs.Refusals.{IsImageRefusal, IsSizeRefusal, IsSomeRefusal, told_line}
 
 -- an image is refused, as this fault says, or memory ran out
 abbrev pub IsRefusedFor : List ℕ → CommandFault → Type 0
@@ -42,14 +42,26 @@ abbrev pub IsToldOut : OutFault → CommandFault → Type 0
 IsToldOut out.Output told = told ≡ Output
 IsToldOut fault told = IsNoImageRefusal told
 
+-- the clients did not run, for want of memory or of a thread
+abbrev pub IsNotServed : CommandFault → Type 0
+IsNotServed fault = (fault ≡ Memory) ⊎ (fault ≡ Thread)
+
 -- bytes are refused for their number, or no image was read
 abbrev pub IsNoImage : CommandFault → Type 0
+IsNoImage Tries = ⊥
+IsNoImage Script = ⊥
 IsNoImage NotWhole = ⊥
 IsNoImage LeftOut = ⊥
 IsNoImage (Extracted fault) = ⊥
 IsNoImage (Undelete why) = ⊥
+IsNoImage (Dos refusal) = ⊥
 IsNoImage (Refused refusal) = (bytes : List ℕ) × IsSizeRefusal bytes refusal
 IsNoImage fault = ⊤
+
+-- no image that is accepted was read
+abbrev pub IsUnread : CommandFault → Type 0
+IsUnread (Refused refusal) = IsSomeRefusal refusal
+IsUnread fault = IsNoImage fault
 
 -- this file was not read to its end, or memory ran out
 abbrev pub IsUnreadFile : List ℕ → CommandFault → Type 0

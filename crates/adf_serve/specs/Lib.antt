@@ -1,5 +1,6 @@
--- The floppy for the program's script and the script's output; lists of blocks that could not be read; the output of commands for images and for refusals, the messages
--- of their faults, the boot blocks that they install, the images that they write, and how they and a command line end.
+-- The floppy for the program's script and the script's output; lists of blocks that could not be read; the output of commands for
+-- images and for refusals, the messages of their faults, the boot blocks that they install, the images that they make, the texts of the
+-- clients that they serve, and how they and a command line end.
 pub mod Script
 pub mod Unread
 pub mod Texts
@@ -14,5 +15,7 @@ pub mod Deleted
 pub mod Mapped
 pub mod Placed
 pub mod Boot
+pub mod Changed
 pub mod NewImages
+pub mod Served
 pub mod Commands

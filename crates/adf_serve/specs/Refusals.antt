@@ -27,6 +27,10 @@ IsImageRefusal image refusal = (kind : FaultKind) × Shows image kind refusal.bl
 abbrev pub IsRefusalOf : List ℕ → Refusal → Type 0
 IsRefusalOf bytes refusal = IsSizeRefusal bytes refusal ⊎ IsImageRefusal bytes refusal
 
+-- so it is for the bytes of some file
+abbrev pub IsSomeRefusal : Refusal → Type 0
+IsSomeRefusal refusal = (bytes : List ℕ) × IsRefusalOf bytes refusal
+
 -- `refused KIND BLOCK`; of a command that prints JSON an object, whose member `refused` has these two
 abbrev pub refusal_text : Bool → Refusal → List ℕ
 refusal_text json refusal = refused_text json refusal.kind.now refusal.block

@@ -16,7 +16,9 @@ use Rattle.adf_export.specs.Info.{info_text}
 use Rattle.adf_export.specs.Listing.{BeginsList, IsList}
 use Rattle.adf_record.specs.BootObject.{IsBootObject}
 use Rattle.adf_record.specs.declared.facts_form.FactsForm.{FactsForm}
-use Rattle.adf_record.specs.Forms.{IsVolumeText, is_json}
+use Rattle.adf_record.specs.declared.facts_form.FactsForm.TheVariants.{Json, Plain}
+use Rattle.adf_record.specs.declared.facts_form.FactsForm.TheVariants as forms
+use Rattle.adf_record.specs.Forms.{IsVolumeText}
 use Rattle.adf_cli.specs.declared.job.ImageJob.{ImageJob}
 use Rattle.adf_cli.specs.declared.job.ImageJob.TheVariants.{Info, List as ListOf, Print, Show, ShowBoot, Validate, WherePath}
 use Rattle.adf_cli.specs.declared.query.ListForm.{ListForm}
@@ -67,12 +69,12 @@ shown_form false form = form
 shown_form true Long = Bold
 shown_form true form = form
 
--- the requested list, with bold letters or without, and the beginning of one
-abbrev pub IsListOf : ListJob → List ℕ → List ℕ → Type 0
-IsListOf job image text = (styled : Bool) × IsListText (option_map (λ word. word.now) job.path) (shown_form styled job.form) job.order image text
+-- the requested list, and the beginning of one
+abbrev pub IsListOf : (styled : Bool) → ListJob → List ℕ → List ℕ → Type 0
+IsListOf styled job = IsListText (option_map (λ word. word.now) job.path) (shown_form styled job.form) job.order
 
-abbrev pub BeginsListOf : ListJob → List ℕ → List ℕ → Type 0
-BeginsListOf job image text = (styled : Bool) × BeginsListText (option_map (λ word. word.now) job.path) (shown_form styled job.form) job.order image text
+abbrev pub BeginsListOf : (styled : Bool) → ListJob → List ℕ → List ℕ → Type 0
+BeginsListOf styled job = BeginsListText (option_map (λ word. word.now) job.path) (shown_form styled job.form) job.order
 
 -- the bytes of the file at a path
 abbrev pub IsPrintText : List ℕ → List ℕ → List ℕ → Type 0
@@ -82,13 +84,19 @@ IsPrintText word = OfAccepted (λ was_validated checked t text. (key : ℕ) × L
 abbrev pub IsCountText : Bool → List ℕ → List ℕ → Type 0
 IsCountText json image text = (new : List ℕ) × IsValidated image new × (text ≡ validated_text json (free_only_in image new) (free_only_in new image))
 
--- a text about an accepted image, by whether its bitmap was rebuilt, the checked image and its tree: the facts of the volume,
--- as a JSON object or in a form for people
-abbrev pub IsLook : Bool → Bool → List ℕ → Tree → List ℕ → Type 0
-IsLook json was_validated checked t text = (form : FactsForm) × (is_json form ≡ json) × IsVolumeText form checked was_validated t text
+-- the form of the facts of a volume: a JSON object, or for people, with bold letters if `styled`
+abbrev pub facts_form : (styled json : Bool) → FactsForm
+facts_form styled true = Json
+facts_form true false = forms.Bold
+facts_form false false = Plain
 
-abbrev pub IsLookText : Bool → List ℕ → List ℕ → Type 0
-IsLookText json = OfAccepted (IsLook json)
+-- a text about an accepted image, by whether its bitmap was rebuilt, the checked image and its tree: the facts of the volume in
+-- that form
+abbrev pub IsLook : (styled json : Bool) → Bool → List ℕ → Tree → List ℕ → Type 0
+IsLook styled json was_validated checked = IsVolumeText (facts_form styled json) checked was_validated
+
+abbrev pub IsLookText : (styled json : Bool) → List ℕ → List ℕ → Type 0
+IsLookText styled json = OfAccepted (IsLook styled json)
 
 -- who owns the blocks that a job asks for, and which of them its list names: a line for each, or a JSON array
 abbrev pub AreOwnedBlocks : WhereJob → List ℕ → List ℕ → Type 0
@@ -104,35 +112,35 @@ AreEntryBlocks json word = OfAccepted (λ was_validated checked t text. (key : �
 abbrev pub AreDeletedLines : UndeleteJob → List ℕ → List ℕ → Type 0
 AreDeletedLines job image text = IsUndeleteText job.json image (map (λ word. key_of word.now) job.paths.items) text
 
--- what is printed of an image, and its beginning
-abbrev pub IsQueryText : Query → List ℕ → List ℕ → Type 0
-IsQueryText (queries.Disk json) = IsInfoText json
-IsQueryText (queries.List job) = IsListOf job.now
-IsQueryText (queries.Bytes path) = IsPrintText path.now
-IsQueryText (queries.Look json) = IsLookText json
-IsQueryText (queries.Entry path json) = AreEntryBlocks json path.now
+-- what is printed of an image, with bold letters if `styled`, and its beginning
+abbrev pub IsQueryText : (styled : Bool) → Query → List ℕ → List ℕ → Type 0
+IsQueryText styled (queries.Disk json) = IsInfoText json
+IsQueryText styled (queries.List job) = IsListOf styled job.now
+IsQueryText styled (queries.Bytes path) = IsPrintText path.now
+IsQueryText styled (queries.Look json) = IsLookText styled json
+IsQueryText styled (queries.Entry path json) = AreEntryBlocks json path.now
 
-abbrev pub BeginsQueryText : Query → List ℕ → List ℕ → Type 0
-BeginsQueryText (queries.List job) = BeginsListOf job.now
-BeginsQueryText query = IsQueryText query
+abbrev pub BeginsQueryText : (styled : Bool) → Query → List ℕ → List ℕ → Type 0
+BeginsQueryText styled (queries.List job) = BeginsListOf styled job.now
+BeginsQueryText styled query = IsQueryText styled query
 
 -- what a boot block is, and its bytes: as a JSON object, or as text
 abbrev pub IsBootForm : Bool → List ℕ → List ℕ → Type 0
 IsBootForm true = IsBootObject
 IsBootForm false = IsBootText
 
--- the output of a command for the bytes that it reads, and its beginning. `boot --show` reads the two boot blocks of a file, whatever
--- follows them
-abbrev pub IsJobText : ImageJob → List ℕ → List ℕ → Type 0
-IsJobText (Info file json) = IsInfoText json
-IsJobText (ListOf job) = IsListOf job
-IsJobText (Print image path) = IsPrintText path.now
-IsJobText (ShowBoot image json) = IsBootForm json
-IsJobText (Validate target force json) = IsCountText json
-IsJobText (Show image json) = IsLookText json
-IsJobText (WherePath image path json) = AreEntryBlocks json path.now
-IsJobText job = λ bytes text. text ≡ []
+-- the output of a command for the bytes that it reads, with bold letters for people if `styled`, and its beginning. `boot --show` reads
+-- the two boot blocks of a file, whatever follows them
+abbrev pub IsJobText : (styled : Bool) → ImageJob → List ℕ → List ℕ → Type 0
+IsJobText styled (Info file json) = IsInfoText json
+IsJobText styled (ListOf job) = IsListOf styled job
+IsJobText styled (Print image path) = IsPrintText path.now
+IsJobText styled (ShowBoot image json) = IsBootForm json
+IsJobText styled (Validate target force json) = IsCountText json
+IsJobText styled (Show image json) = IsLookText styled json
+IsJobText styled (WherePath image path json) = AreEntryBlocks json path.now
+IsJobText styled job = λ bytes text. text ≡ []
 
-abbrev pub BeginsJobText : ImageJob → List ℕ → List ℕ → Type 0
-BeginsJobText (ListOf job) = BeginsListOf job
-BeginsJobText job = IsJobText job
+abbrev pub BeginsJobText : (styled : Bool) → ImageJob → List ℕ → List ℕ → Type 0
+BeginsJobText styled (ListOf job) = BeginsListOf styled job
+BeginsJobText styled job = IsJobText styled job

@@ -3,7 +3,8 @@ ghost use Rattle.std.specs.Prelude.{◌≡◌, List, ℕ, MatchResult, IfErr, If
 ghost use Rattle.ados_name.specs.Name.{IsName};
 ghost use Rattle.ados_model.specs.Blank.{IsBlank};
 ghost use Rattle.adf_serve.specs.Faults.{IsBlankFault, IsNamed, IsNameFault};
-ghost use Rattle.adf_serve.specs.NewImages.{PutsImage};
+ghost use Rattle.adf_serve.specs.NewImages.{PutsMade};
+ghost use Rattle.adf_serve.specs.NewImages.Made.{ABlank};
 
 use crate::changing::given_or_now;
 use crate::fault::CommandFault;
@@ -44,7 +45,7 @@ where
     R: Files<File = File> + PromptFiles + Clock,
     W: Write,
     F: Write,
-    ensures { PutsImage (Some file.entry.now) (W.contents writer.old) (W.contents writer.new) result }
+    ensures { PutsMade (ABlank new.entry) (Some file.entry.now) (W.contents writer.old) (W.contents writer.new) result }
 {
     let moment = given_or_now(rt, new.moment)?;
     let volume = blank_volume(alloc, new.format, new.blocks, new.name, new.letters, moment)?;

@@ -1,12 +1,12 @@
 //! The command `boot`, and the boot block of any image.
-ghost use Rattle.std.specs.Prelude.{IfErr, IfOk, Some};
+ghost use Rattle.std.specs.Prelude.{IfErr, IfOk, OnOk, Some};
 ghost use Rattle.adf_block.specs.BootCode.{boot_bytes};
 ghost use Rattle.adf_io.specs.Input.{ReadsUpTo};
-ghost use Rattle.adf_serve.specs.Boot.{PutsBoot, PutsFile};
+ghost use Rattle.adf_serve.specs.Boot.{IsAccepted, PutsBoot, PutsFile};
 ghost use Rattle.adf_serve.specs.Commands.{TellsSome};
-ghost use Rattle.adf_serve.specs.Faults.{IsNoImage};
-ghost use Rattle.adf_serve.specs.NewImages.{PutsImage, PutsMade, out_of};
-ghost use Rattle.adf_serve.specs.NewImages.Made.{ABootBlock};
+ghost use Rattle.adf_serve.specs.Faults.{IsNoImage, IsNoRefusal, IsUnread};
+ghost use Rattle.adf_serve.specs.NewImages.{PutsMade, out_of};
+ghost use Rattle.adf_serve.specs.NewImages.Made.{ABooted, ABootBlock};
 ghost use Rattle.adf_serve.specs.Texts.{IsBootForm};
 
 use crate::fault::CommandFault;
@@ -41,7 +41,7 @@ pub(crate) fn change_boot<'a, R: Files<File = File> + PromptFiles + Clock, W: Wr
     block: BootBlock<'a>,
     writer: &mut W,
 ) -> Result<(), CommandFault<'a>>
-    ensures { PutsImage (out_of target.entry) (W.contents writer.old) (W.contents writer.new) result }
+    ensures { PutsMade (ABooted block.entry) (out_of target.entry) (W.contents writer.old) (W.contents writer.new) result }
 {
     let (work, mut image) = Work::begin(rt, alloc, target)?;
     accept_copy(alloc, &image)?;
@@ -51,7 +51,10 @@ pub(crate) fn change_boot<'a, R: Files<File = File> + PromptFiles + Clock, W: Wr
 
 /// Checks that an image is accepted. It checks a copy, because the check may rebuild the bitmap, and a boot block
 /// leaves it unchanged.
-fn accept_copy<'a>(alloc: Global, image: &Image) -> Result<(), CommandFault<'a>> {
+fn accept_copy<'a>(alloc: Global, image: &Image) -> Result<(), CommandFault<'a>>
+    ensures accepted { OnOk result (IsAccepted image.now) }
+    ensures fault { IfErr result IsUnread }
+{
     let copy = Vec::from_slice(alloc, image.as_bytes())?;
     match Image::from_bytes(copy) {
         Ok(copy) => {
@@ -69,7 +72,8 @@ fn put_boot<'a, R: Files>(
     image: &mut Image,
     block: BootBlock<'a>,
 ) -> Result<(), CommandFault<'a>>
-    ensures { PutsBoot block.entry image.old image.new result }
+    ensures installed { PutsBoot block.entry image.old image.new result }
+    ensures fault { IfErr result IsNoRefusal }
 {
     match block {
         BootBlock::Empty => {
@@ -91,7 +95,8 @@ fn put_file<'a, R: Files>(
     image: &mut Image,
     file: &'a str,
 ) -> Result<(), CommandFault<'a>>
-    ensures { PutsFile image.old image.new result }
+    ensures installed { PutsFile image.old image.new result }
+    ensures fault { IfErr result IsNoRefusal }
 {
     let code = read_code(rt, alloc, file)?;
     match boot_image(image, Some(&code)) {
@@ -105,7 +110,9 @@ fn read_code<'a, R: Files>(
     rt: &R,
     alloc: Global,
     file: &'a str,
-) -> Result<Vec<u8>, CommandFault<'a>> {
+) -> Result<Vec<u8>, CommandFault<'a>>
+    ensures { IfErr result IsNoRefusal }
+{
     let Ok(mut reader) = fs::open(rt, file) else {
         return Err(CommandFault::Read(file, why_unreadable(rt, file)));
     };

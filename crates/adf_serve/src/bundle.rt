@@ -1,5 +1,6 @@
 //! The commands that write a volume to a directory of the host, and make it again.
-ghost use Rattle.adf_serve.specs.NewImages.{PutsImage, out_of};
+ghost use Rattle.adf_serve.specs.NewImages.{PutsMade, out_of};
+ghost use Rattle.adf_serve.specs.NewImages.Made.{ABundled};
 
 use crate::boot::tell_boot;
 use crate::fault::CommandFault;
@@ -39,7 +40,7 @@ pub(crate) fn put_bundle<'a, R: Files<File = File> + PromptFiles + Clock, W: Wri
     from: &'a str,
     writer: &mut W,
 ) -> Result<(), CommandFault<'a>>
-    ensures { PutsImage (out_of target.entry) (W.contents writer.old) (W.contents writer.new) result }
+    ensures { PutsMade ABundled (out_of target.entry) (W.contents writer.old) (W.contents writer.new) result }
 {
     let file = target.image.path;
     let (work, image) = Work::begin(rt, alloc, target)?;

@@ -1,7 +1,9 @@
 //! The commands that change an image file.
-ghost use Rattle.std.specs.Prelude.{IfErr};
+ghost use Rattle.std.specs.Prelude.{IfErr, IfOk};
+ghost use Rattle.adf_serve.specs.Changed.{IsStamp};
 ghost use Rattle.adf_serve.specs.Faults.{IsNoImage, IsNoRefusal};
-ghost use Rattle.adf_serve.specs.NewImages.{PutsImage, out_of};
+ghost use Rattle.adf_serve.specs.NewImages.{PutsMade, out_of};
+ghost use Rattle.adf_serve.specs.NewImages.Made.{AChanged};
 
 use crate::explaining::explained;
 use crate::fault::CommandFault;
@@ -28,7 +30,7 @@ where
     R: Files<File = File> + PromptFiles + Clock + StandardInput,
     W: Write,
     F: Write,
-    ensures { PutsImage (out_of job.now.target) (W.contents writer.old) (W.contents writer.new) result }
+    ensures { PutsMade (AChanged job.now) (out_of job.now.target) (W.contents writer.old) (W.contents writer.new) result }
 {
     refuse_closed_input(rt, &job.change)?;
     let (work, image) = Work::begin(rt, alloc, job.target)?;
@@ -48,7 +50,9 @@ where
 fn refuse_closed_input<'a, R: StandardInput>(
     rt: &R,
     change: &Change<'_>,
-) -> Result<(), CommandFault<'a>> {
+) -> Result<(), CommandFault<'a>>
+    ensures { IfErr result IsNoRefusal }
+{
     let reads_input = matches!(
         change,
         Change::AddAs {
@@ -67,6 +71,7 @@ pub(crate) fn given_or_now<'a, R: Clock>(
     rt: &R,
     given: Option<Date3>,
 ) -> Result<Date3, CommandFault<'a>>
+    ensures stamp { IfOk result (IsStamp given) }
     ensures no_refusal { IfErr result IsNoRefusal }
     ensures no_image { IfErr result IsNoImage }
 {

@@ -1,6 +1,8 @@
 //! What more is known of a refused change than the error of AmigaDOS.
-ghost use Rattle.std.specs.Prelude.{IfSome};
+ghost use Rattle.std.specs.Prelude.{◌≡◌, IfSome};
 ghost use Rattle.std.specs.String.{string_bytes};
+ghost use Rattle.ados_model.specs.declared.dos_error.DosError.TheVariants.{DeleteProtected};
+ghost use Rattle.adf_serve.specs.Changed.{IsExplained, IsPrinted, deletes_all};
 ghost use Rattle.adf_serve.specs.Explained.{IsDeniedPath};
 
 use crate::fault::CommandFault;
@@ -19,23 +21,41 @@ pub(crate) fn explained<'a>(
     volume: &mut Volume,
     change: &Change<'_>,
     fault: InFault,
-) -> CommandFault<'a> {
+) -> CommandFault<'a>
+    ensures { IsExplained change.now volume.old.image fault result }
+{
     match fault {
-        InFault::Refused(refused) => CommandFault::Dos(match refused.error {
-            DosError::DeleteProtected => denied(alloc, volume, change, refused),
-            DosError::InvalidComponentName => misnamed(alloc, change, refused),
-            DosError::ObjectInUse => DosRefusal {
-                refused,
-                detail: Detail::IntoItself,
-            },
-            _ => plain(refused),
-        }),
+        InFault::Refused(refused) => {
+            CommandFault::Dos(refusal_of(alloc, volume, change, refused))
+        }
         other => CommandFault::from(other),
     }
 }
 
+/// The refusal of a change, with what more is known of it.
+fn refusal_of(
+    alloc: Global,
+    volume: &mut Volume,
+    change: &Change<'_>,
+    refused: Refused,
+) -> DosRefusal
+    ensures { IsPrinted change.now volume.old.image refused result.refused }
+{
+    match refused.error {
+        DosError::DeleteProtected => denied(alloc, volume, change, refused),
+        DosError::InvalidComponentName => misnamed(alloc, change, refused),
+        DosError::ObjectInUse => DosRefusal {
+            refused,
+            detail: Detail::IntoItself,
+        },
+        _ => plain(refused),
+    }
+}
+
 /// A refusal of which no more is known.
-fn plain(refused: Refused) -> DosRefusal {
+fn plain(refused: Refused) -> DosRefusal
+    ensures { result.refused ≡ refused }
+{
     DosRefusal {
         refused,
         detail: Detail::Plain,
@@ -43,8 +63,11 @@ fn plain(refused: Refused) -> DosRefusal {
 }
 
 /// The refusal of a protected entry. It names an entry below the path if that is the one which is protected.
-fn denied(alloc: Global, volume: &mut Volume, change: &Change<'_>, refused: Refused) -> DosRefusal {
-    if !matches!(change, Change::Delete { all: true, .. }) {
+fn denied(alloc: Global, volume: &mut Volume, change: &Change<'_>, refused: Refused) -> DosRefusal
+    requires { refused.error ≡ DeleteProtected }
+    ensures { IsPrinted change.now volume.old.image refused result.refused }
+{
+    if !deletes_all(change) {
         return plain(refused);
     }
     match denied_path(alloc, volume, refused.path.as_str()) {
@@ -53,6 +76,16 @@ fn denied(alloc: Global, volume: &mut Volume, change: &Change<'_>, refused: Refu
             path,
         }),
         None => plain(refused),
+    }
+}
+
+/// Whether a change deletes entries with everything below them.
+fn deletes_all(change: &Change<'_>) -> bool
+    ensures { result ≡ deletes_all change.now }
+{
+    match change {
+        Change::Delete { all, .. } => *all,
+        _ => false,
     }
 }
 
@@ -79,7 +112,9 @@ fn denied_path(alloc: Global, volume: &mut Volume, word: &str) -> Option<String>
 }
 
 /// The refusal of a name, with what is wrong with it, or with a name in a path.
-fn misnamed(alloc: Global, change: &Change<'_>, refused: Refused) -> DosRefusal {
+fn misnamed(alloc: Global, change: &Change<'_>, refused: Refused) -> DosRefusal
+    ensures { result.refused ≡ refused }
+{
     let text = refused.path.as_str();
     let (name, why) = if matches!(change, Change::Relabel { .. } | Change::AddAs { .. }) {
         (text, NameWhy::of_text(text).unwrap_or(NameWhy::Empty))

@@ -1,6 +1,6 @@
 //! Why a command fails.
 ghost use Rattle.std.specs.Prelude.{◌≡◌, IfOk, option_map};
-ghost use Rattle.adf_serve.specs.Faults.{IsNoImage, IsUnreadFile, status_of};
+ghost use Rattle.adf_serve.specs.Faults.{IsNoImage, IsNoImageRefusal, IsUnreadFile, status_of};
 ghost use Rattle.adf_serve.specs.Refusals.{told_line};
 
 use crate::refusal::{Detail, DosRefusal, Refusal, Room};
@@ -161,7 +161,9 @@ impl<'a> CommandFault<'a> {
     }
 
     /// The fault of a bundle that does not become the volume of an image file.
-    pub(crate) fn of_bundle(fault: InFault, file: &'a str) -> CommandFault<'a> {
+    pub(crate) fn of_bundle(fault: InFault, file: &'a str) -> CommandFault<'a>
+        ensures { IsNoImageRefusal result }
+    {
         match fault {
             InFault::Source(SourceFault::Volume(why)) => CommandFault::OtherVolume(file, why),
             other => CommandFault::from(other),
@@ -269,7 +271,13 @@ impl From<UndeleteFault> for CommandFault<'_> {
 }
 
 impl From<InFault> for CommandFault<'_> {
-    fn from(fault: InFault) -> Self {
+    ghost use Rattle.adf_serve.specs.Changed.{IsToldIn};
+
+    ghost from_gives = { λ fault told. IsToldIn fault told };
+
+    fn from(fault: InFault) -> Self
+        ensures { IsToldIn fault result }
+    {
         match fault {
             InFault::Refused(refused) => CommandFault::Dos(DosRefusal {
                 refused,
@@ -327,6 +335,10 @@ impl From<PrintFault> for CommandFault<'_> {
 }
 
 impl From<ScriptsFault> for CommandFault<'_> {
+    ghost use Rattle.adf_serve.specs.Faults.{IsNotServed};
+
+    ghost from_gives = { λ _ fault. IsNotServed fault };
+
     fn from(fault: ScriptsFault) -> Self {
         match fault {
             ScriptsFault::Memory => CommandFault::Memory,

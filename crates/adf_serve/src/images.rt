@@ -3,7 +3,7 @@ ghost use Rattle.std.specs.Prelude.{◌≡◌, ◌↔◌, IfErr, IfOk, IsFalse, 
 ghost use Rattle.std.specs.Io.KnownBytes.{Keeps};
 ghost use Rattle.ados_model.specs.Accepted.{Accepts};
 ghost use Rattle.adf_serve.specs.Faults.{IsNoImage, IsNoRefusal, IsRefusedFor};
-ghost use Rattle.adf_serve.specs.NewImages.{WritesImage, out_of};
+ghost use Rattle.adf_serve.specs.NewImages.{IsNew, Made, WritesMade, out_of};
 
 use crate::fault::CommandFault;
 use crate::output::{is_output, put_image};
@@ -113,7 +113,8 @@ pub(crate) fn write_held<'a, R: Files<File = File> + PromptFiles>(
     file: &'a str,
     held: Result<Option<HeldFile>, HoldFault>,
 ) -> Result<(), CommandFault<'a>>
-    ensures { IfErr result IsNoRefusal }
+    ensures no_refusal { IfErr result IsNoRefusal }
+    ensures no_image { IfErr result IsNoImage }
 {
     match held {
         Ok(held) => write_image(rt, alloc, image, behind, file, held.as_ref()),
@@ -219,8 +220,9 @@ impl<'a> Work<'a> {
         image: &Image,
         writer: &mut W,
     ) -> Result<(), CommandFault<'a>>
-        ensures output { IsTrue self.entry.to_output → WritesImage (W.contents writer.old) (W.contents writer.new) result }
+        ensures output { IsTrue self.entry.to_output → (made : Made) → IsNew made image.now → WritesMade made (W.contents writer.old) (W.contents writer.new) result }
         ensures file { IsFalse self.entry.to_output → Keeps (W.contents writer.old) (W.contents writer.new) }
+        ensures fault { IfErr result IsNoRefusal }
     {
         if self.to_output {
             return put_image(alloc, image, &self.behind, writer);

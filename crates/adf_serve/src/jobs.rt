@@ -42,7 +42,7 @@ where
     R: Files<File = File> + PromptFiles + Clock + Threads + Wait + ReadImages + StandardInput + Copy + Send + Sync + Drop + 'static,
     W: Write,
     F: Write,
-    ensures { DoesJob job.now (W.contents writer.old) (W.contents writer.new) result }
+    ensures { DoesJob screen.styled job.now (W.contents writer.old) (W.contents writer.new) result }
 {
     match job {
         ImageJob::Blank { format, blocks, moment, name, letters, file } => {

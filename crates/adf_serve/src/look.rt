@@ -2,9 +2,8 @@
 ghost use Rattle.std.specs.Prelude.{◌≡◌, IfOk};
 ghost use Rattle.ados_model.specs.Stands.{Stands};
 ghost use Rattle.ados_model.specs.Tree.{Tree};
-ghost use Rattle.adf_record.specs.Forms.{is_json};
 ghost use Rattle.adf_serve.specs.Commands.{TellsOf};
-ghost use Rattle.adf_serve.specs.Texts.{IsLook, IsLookText};
+ghost use Rattle.adf_serve.specs.Texts.{IsLook, IsLookText, facts_form};
 
 use crate::fault::CommandFault;
 use crate::images::accept;
@@ -23,7 +22,7 @@ pub(crate) fn tell_look<'a, W: Write>(
     styled: bool,
     writer: &mut W,
 ) -> Result<(), CommandFault<'a>>
-    ensures { TellsOf (IsLookText json) (IsLookText json) image (W.contents writer.old) (W.contents writer.new) result }
+    ensures { TellsOf (IsLookText styled json) (IsLookText styled json) image (W.contents writer.old) (W.contents writer.new) result }
 {
     let volume = accept(alloc, image)?;
     let text = look_text(alloc, &volume, json, styled)?;
@@ -38,14 +37,14 @@ fn look_text(
     styled: bool,
 ) -> Result<Vec<u8>, AllocError>
     ensures { IfOk result (λ text. (t : Tree) → Stands volume.now.image t →
-        IsLook json volume.now.was_validated volume.now.image t text.items) }
+        IsLook styled json volume.now.was_validated volume.now.image t text.items) }
 {
     volume_text(alloc, volume, facts_form(json, styled))
 }
 
 /// The form of what a person wants to know.
 fn facts_form(json: bool, styled: bool) -> FactsForm
-    ensures { is_json result ≡ json }
+    ensures { result ≡ facts_form styled json }
 {
     if json {
         FactsForm::Json

@@ -28,7 +28,7 @@ pub(crate) fn tell_list<'a, W: Write>(
     styled: bool,
     writer: &mut W,
 ) -> Result<(), CommandFault<'a>>
-    ensures { TellsOf (IsListOf job.now) (BeginsListOf job.now) image (W.contents writer.old) (W.contents writer.new) result }
+    ensures { TellsOf (IsListOf styled job.now) (BeginsListOf styled job.now) image (W.contents writer.old) (W.contents writer.new) result }
 {
     let mut volume = accept(alloc, image)?;
     let key = listed_object(alloc, &mut volume, job.path)?;

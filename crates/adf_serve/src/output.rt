@@ -1,11 +1,11 @@
 //! What a command prints, and its exit status.
-ghost use Rattle.std.specs.Prelude.{◌≡◌, ◌↔◌, ◌++◌, ℕ, List, Option, Err, IsTrue, OnOk, OnErr, IfErr, IfOk, codes};
+ghost use Rattle.std.specs.Prelude.{◌≡◌, ◌↔◌, ◌++◌, ℕ, Bool, List, Option, Err, IsTrue, OnOk, OnErr, IfErr, IfOk, codes};
 ghost use Rattle.std.specs.Io.KnownBytes.{Appends};
 ghost use Rattle.adf_block.specs.Whole.{IsImage};
 ghost use Rattle.adf_io.specs.Prefix.{WritesFront};
 ghost use Rattle.adf_cli.specs.declared.job.ImageJob.{ImageJob};
 ghost use Rattle.adf_serve.specs.Commands.{DoesJob, EndsJob, TellsJob, prints_json};
-ghost use Rattle.adf_serve.specs.NewImages.{WritesImage};
+ghost use Rattle.adf_serve.specs.NewImages.{IsNew, Made, WritesMade};
 ghost use Rattle.adf_serve.specs.Faults.{IsNoRefusal};
 ghost use Rattle.adf_serve.specs.declared.fault.CommandFault.TheVariants.{Output};
 
@@ -42,7 +42,8 @@ pub(crate) fn put_image<'a, W: Write>(
     behind: &[u8],
     writer: &mut W,
 ) -> Result<(), CommandFault<'a>>
-    ensures { WritesImage (W.contents writer.old) (W.contents writer.new) result }
+    ensures written { (made : Made) → IsNew made image.now → WritesMade made (W.contents writer.old) (W.contents writer.new) result }
+    ensures fault { IfErr result IsNoRefusal }
 {
     let bytes = whole_file(alloc, image, behind)?;
     tell(writer, &bytes)
@@ -77,7 +78,7 @@ pub fn end_job<R: Files + ReadImages, W: Write + SeesReader, F: Write>(
     writer: &mut W,
     faults: &mut F,
 ) -> u8
-    ensures { (old : Option (List ℕ)) → DoesJob job.now old (W.contents writer.old) done.entry → EndsJob job.now old (W.contents writer.new) result }
+    ensures { (styled : Bool) (old : Option (List ℕ)) → DoesJob styled job.now old (W.contents writer.old) done.entry → EndsJob styled job.now old (W.contents writer.new) result }
 {
     let fault = match done {
         Ok(()) => return 0,
@@ -101,7 +102,7 @@ fn refuse<'a, W: Write>(
     fault: CommandFault<'a>,
     writer: &mut W,
 ) -> CommandFault<'a>
-    ensures { (job : ImageJob) (old : Option (List ℕ)) → prints_json job ≡ json → DoesJob job old (W.contents writer.old) (Err fault.entry) → TellsJob job old (W.contents writer.new) (Err result) }
+    ensures { (styled : Bool) (job : ImageJob) (old : Option (List ℕ)) → prints_json job ≡ json → DoesJob styled job old (W.contents writer.old) (Err fault.entry) → TellsJob styled job old (W.contents writer.new) (Err result) }
 {
     match fault.line(alloc, json) {
         Ok(None) => fault,

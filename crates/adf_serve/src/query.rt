@@ -37,7 +37,7 @@ pub(crate) fn print_query<'a, R: Files, W: Write>(
     styled: bool,
     writer: &mut W,
 ) -> Result<(), CommandFault<'a>>
-    ensures { TellsSome (IsQueryText query.entry) (BeginsQueryText query.entry) (W.contents writer.old) (W.contents writer.new) result }
+    ensures { TellsSome (IsQueryText styled query.entry) (BeginsQueryText styled query.entry) (W.contents writer.old) (W.contents writer.new) result }
 {
     let image = read_image(rt, alloc, file)?;
     match query {

@@ -1,5 +1,14 @@
 //! The command `serve`: scripts over an image, each as a client on its own thread.
-ghost use Rattle.std.specs.Prelude.{◌≡◌, length, IfOk};
+ghost use Rattle.std.specs.Prelude.{◌≡◌, ◌≢◌, ℕ, List, All, Any, IfErr, IfOk, MatchBool, flat_map, length, map};
+ghost use Rattle.std.specs.Io.KnownBytes.{Appends};
+ghost use Rattle.ados_model.specs.Accepted.{Accepts};
+ghost use Rattle.ados_run.specs.ServesVolume.{texts_of};
+ghost use Rattle.adf_io.specs.Prefix.{WritesFront};
+ghost use Rattle.adf_cli.specs.declared.job.ServeJob.{ServeJob};
+ghost use Rattle.adf_script.specs.declared.ending.ClientEnding.TheVariants as ending;
+ghost use Rattle.adf_serve.specs.Changed.{IsStamp};
+ghost use Rattle.adf_serve.specs.Faults.{IsNoImage, IsUnread};
+ghost use Rattle.adf_serve.specs.Served.{DoesServe, EndsBy, IsServed, ending_of, text_of};
 
 use crate::changing::given_or_now;
 use crate::fault::CommandFault;
@@ -56,6 +65,7 @@ where
     R: Files<File = File> + PromptFiles + Clock + Threads + Wait + Copy + Send + Drop + 'static,
     W: Write,
     F: Write,
+    ensures { DoesServe job.now (W.contents writer.old) (W.contents writer.new) result }
 {
     let mut out = match job.out {
         Some(file) => Some((file, hold_target(rt, file, None))),
@@ -83,7 +93,10 @@ fn read_input<'a, R: Files<File = File> + Clock>(
     job: &ServeJob<'a>,
     out: &mut Option<OutFile<'a>>,
 ) -> Result<Input, CommandFault<'a>>
-    ensures { IfOk result (λ input. length input.scripts.scripts.items ≡ length job.now.scripts.items) }
+    ensures scripts { IfOk result (λ input. length input.scripts.scripts.items ≡ length job.now.scripts.items) }
+    ensures stamp { IfOk result (λ input. IsStamp job.now.moment input.moment) }
+    ensures volume { IfOk result (λ input. (read : List ℕ) × Accepts read input.volume.was_validated input.volume.image) }
+    ensures fault { IfErr result IsUnread }
 {
     let moment = given_or_now(rt, job.moment)?;
     let Loaded { image, behind } = read_served(rt, alloc, job, out)?;
@@ -103,7 +116,9 @@ fn read_served<'a, R: Files<File = File>>(
     alloc: Global,
     job: &ServeJob<'a>,
     out: &mut Option<OutFile<'a>>,
-) -> Result<Loaded, CommandFault<'a>> {
+) -> Result<Loaded, CommandFault<'a>>
+    ensures { IfErr result IsNoImage }
+{
     let path = input_path(job.image.path);
     let Some(target) = out else {
         return read_loaded(rt, alloc, job.image);
@@ -163,7 +178,9 @@ fn finish<'a, R: Files<File = File> + PromptFiles, W: Write>(
     behind: &[u8],
     out: Option<OutFile<'a>>,
     writer: &mut W,
-) -> Result<(), CommandFault<'a>> {
+) -> Result<(), CommandFault<'a>>
+    ensures { (job : ServeJob) → IsServed job (texts_of served.now.texts.items) → DoesServe job (W.contents writer.old) (W.contents writer.new) result }
+{
     let is_told = tell_all(&served.texts, writer);
     if let Some((file, held)) = out {
         let image = served.handler.volume().image();
@@ -181,7 +198,8 @@ fn read_scripts<'a, R: Files>(
     alloc: Global,
     files: &[&'a str],
 ) -> Result<Scripts, CommandFault<'a>>
-    ensures { IfOk result (λ read. length read.scripts.items ≡ length files.now) }
+    ensures each { IfOk result (λ read. length read.scripts.items ≡ length files.now) }
+    ensures fault { IfErr result IsNoImage }
 {
     let (mut scripts, mut copies) = (Vec::new(alloc), Vec::new(alloc));
     for file in files {
@@ -199,7 +217,9 @@ fn script_of<'a, R: Files>(
     rt: &R,
     alloc: Global,
     file: &'a str,
-) -> Result<Vec<u8>, CommandFault<'a>> {
+) -> Result<Vec<u8>, CommandFault<'a>>
+    ensures { IfErr result IsNoImage }
+{
     let Ok(mut reader) = fs::open(rt, file) else {
         return Err(CommandFault::Read(file, why_unreadable(rt, file)));
     };
@@ -223,22 +243,54 @@ fn is_too_long<F: OpenFile>(file: &F) -> bool {
 }
 
 /// Prints the output of the clients, in order. Returns whether all of it was written.
-fn tell_all<W: Write>(texts: &[ClientText], writer: &mut W) -> bool {
-    for (text, _) in texts {
-        if write_output(text.as_slice(), writer).is_err() {
-            return false;
+fn tell_all<W: Write>(texts: &[ClientText], writer: &mut W) -> bool
+    ensures { MatchBool result (Appends (W.contents writer.old) (W.contents writer.new) (flat_map text_of texts.now))
+        (WritesFront (W.contents writer.old) (W.contents writer.new) (flat_map text_of texts.now)) }
+{
+    for told in texts {
+        match write_output(told.0.as_slice(), writer) {
+            Ok(()) => {}
+            Err(_) => return false,
         }
     }
     true
 }
 
 /// Whether all scripts ended without a fault. A client that ran out of tries counts before a faulty script.
-fn judge<'a>(texts: &[ClientText]) -> Result<(), CommandFault<'a>> {
-    if texts.iter().any(|told| told.1 == ClientEnding::Tries) {
+fn judge<'a>(texts: &[ClientText]) -> Result<(), CommandFault<'a>>
+    ensures { EndsBy (map ending_of texts.now) result }
+{
+    if has_run_out(texts) {
         return Err(CommandFault::Tries);
     }
-    if texts.iter().any(|told| told.1 == ClientEnding::Script) {
+    if has_faulty(texts) {
         return Err(CommandFault::Script);
     }
     Ok(())
+}
+
+/// Whether one of the clients ran out of tries.
+fn has_run_out(texts: &[ClientText]) -> bool
+    ensures { MatchBool result (Any (λ text. ending_of text ≡ ending.Tries) texts.now) (All (λ text. ending_of text ≢ ending.Tries) texts.now) }
+{
+    for text in texts {
+        match text.1 {
+            ClientEnding::Tries => return true,
+            ClientEnding::Done | ClientEnding::Script => {}
+        }
+    }
+    false
+}
+
+/// Whether one of the scripts was faulty.
+fn has_faulty(texts: &[ClientText]) -> bool
+    ensures { MatchBool result (Any (λ text. ending_of text ≡ ending.Script) texts.now) (All (λ text. ending_of text ≢ ending.Script) texts.now) }
+{
+    for text in texts {
+        match text.1 {
+            ClientEnding::Script => return true,
+            ClientEnding::Done | ClientEnding::Tries => {}
+        }
+    }
+    false
 }

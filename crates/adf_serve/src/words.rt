@@ -51,7 +51,7 @@ where
         + Drop
         + 'static,
     R: Read + IsTerminal,
-    W: Write + IsTerminal + SeesReader,
+    W: Write + SeesReader,
     F: Write + IsTerminal,
     ensures whole { words.now ≡ [] → result ≡ 0 →
         RunsScript (R.remaining reader.old) (R.remaining reader.new) (W.contents writer.old)
@@ -59,7 +59,8 @@ where
     ensures faulty { words.now ≡ [] → result ≡ 3 →
         RunsScript (R.remaining reader.old) (R.remaining reader.new) (W.contents writer.old)
         (W.contents writer.new) false }
-    ensures command { words.now ≢ [] → RunsCommand result (W.contents writer.old) (W.contents writer.new) }
+    ensures command { words.now ≢ [] →
+        RunsCommand (W.is_screen writer.old) result (W.contents writer.old) (W.contents writer.new) }
 {
     match read_words(alloc, words, columns(rt)) {
         Ok(Job::Script) => {
@@ -72,7 +73,7 @@ where
             tell_job(rt, &job, faults);
             let screen = Screen {
                 progress: faults.is_terminal(),
-                styled: writer.is_terminal() && takes_bold(rt),
+                styled: writer.is_screen() && takes_bold(rt),
             };
             let done = run_job(rt, alloc, &job, screen, writer, faults);
             end_job(rt, alloc, &job, done, writer, faults)

@@ -1,10 +1,10 @@
 -- The data blocks of a file, by the blocks whose pointers name them.
-use Rattle.ados_faults.proofs.Common.{flat_map, ◌≡◌, ◌≢◌, ℕ, ◌+◌, ◌-◌, ◌*◌, ◌^◌, ◌<◌, ◌≤◌, min, ◌==◌, inl, inr, Bool, true, false, List, [], ◌∷◌, ◌++◌, length, take, drop, slice_index, get_or, replicate, set, Option, Some, None, refl, sym, ap, ◌∙◌, subst, arith, length-set, get_or-set_same, get_or-set_other, flat_map-append, sum_by-append, All, slice_get, is_some, cases_eq, cases_lt, eqb-false, eqb-true, false≢true, le-ltb, lt-leb, lt-ltb, or_cases, or_parts, append-nil, drop_more, get_or_append_left, get_or-append-add, get_or_default, get_or_push, take_more, length-append, length-replicate, length_push, take-append-drop, All-append, get_or_from_slice_get, none-some, same_Some, slice_get-get_or, slice_get_within, block_count, held_count, pointer, pointer_count, sequence_number, BadSequence, InImage, pointers_of, BreaksRule, kind_of_data, Sequence, AreHeaders, IsPiece, first_in, next_in, AreAllSeen, AreHeld, ArePlacesNoted, HasBehind, IsHeaderSeen, IsHeld, IsOneNoted, IsPieceNoted, IsPlaceNoted, is_known, AreStillNoted, cell_of, IsNoted, DataRule, Piece}
+use Rattle.ados_faults.proofs.Common.{flat_map, ◌≡◌, ◌≢◌, ℕ, ◌+◌, ◌-◌, ◌*◌, ◌^◌, ◌<◌, ◌≤◌, min, ◌==◌, inl, inr, Bool, true, false, List, [], ◌∷◌, ◌++◌, length, take, drop, slice_index, get_or, replicate, set, Option, Some, None, refl, sym, ap, ◌∙◌, subst, arith, length-set, flat_map-append, sum_by-append, All, slice_get, is_some, cases_eq, cases_lt, eqb-false, eqb-true, false≢true, le-ltb, lt-leb, lt-ltb, or_cases, or_parts, append-nil, drop_more, get_or_append_left, get_or-append-add, take_more, length-append, length-replicate, take-append-drop, All-append, slice_get-get_or, block_count, held_count, pointer, pointer_count, sequence_number, BadSequence, InImage, pointers_of, BreaksRule, kind_of_data, Sequence, AreHeaders, IsPiece, first_in, next_in, AreAllSeen, AreHeld, ArePlacesNoted, HasNext, IsHeaderSeen, IsHeld, IsOneNoted, IsPieceNoted, IsPlaceNoted, is_known, AreStillNoted, cell_of, IsNoted, DataRule, Piece}
 use Rattle.ados_model.proofs.FileBlocks.{first_pointers-at, length-first_pointers}
 use Rattle.ados_check.proofs.Pointers.{pointers_are}
 use Rattle.ados_faults.specs.declared.pieces.Seen.{Seen}
 use Rattle.ados_faults.proofs.FileNotes.{placed_on}
-use Rattle.ados_faults.proofs.Firsts.{same_there}
+use Rattle.ados_faults.proofs.Firsts.{each_after_push, each_after_set, none_there}
 
 -- ---- the pointers of one block
 
@@ -78,20 +78,6 @@ held_append image xs ys a b x y = (
   omega (arith, x.1, y.1, sum_by-append (held_count image) xs ys),
 )
 
--- of one more header
-pub held_next : (image : List ℕ) (headers : List ℕ) (k a b : ℕ) → k < length headers → IsHeld image (flat_map (pointers_of image) (take k headers)) (Some a) → IsHeld image (pointers_of image (slice_index headers k)) (Some b)
-    → IsHeld image (flat_map (pointers_of image) (take (k + 1) headers)) (Some (min (a + b) (2 ^ 64 - 1)))
-held_next image headers k a b l x y =
-    subst (λ (xs : List ℕ). IsHeld image xs (Some (min (a + b) (2 ^ 64 - 1)))) (sym (flat_next image headers k l))
-    (held_append image (flat_map (pointers_of image) (take k headers)) (pointers_of image (slice_index headers k)) a b x y)
-
--- a block outside the image is outside for all of them
-pub held_out : (image : List ℕ) (headers : List ℕ) (k : ℕ) → k < length headers → ¬ All (InImage image) (pointers_of image (slice_index headers k)) → ¬ All (InImage image) (flat_map (pointers_of image) headers)
-held_out image headers k l out all = out (λ i d m.
-    let at = length (flat_map (pointers_of image) (take k headers)) + i in
-    let within : at < length (flat_map (pointers_of image) headers) = omega (arith, m, within_all image headers k l) in
-    subst (InImage image) (pointer_there image headers k l i m ∙ get_or_default (pointers_of image (slice_index headers k)) i 0 d m) (all at 0 within))
-
 -- what is known of a header
 pub held_at : (image : List ℕ) (held : List (Option ℕ)) (header : ℕ) → AreHeld image held → header < block_count image → IsHeld image (pointers_of image header) (get_or held header None)
 held_at image held header h l = h.each header (get_or held header None) (slice_get-get_or held header None (omega (arith, l, h.size)))
@@ -102,22 +88,14 @@ none_held image blocks (Some x) h lacking = absurd (lacking x refl)
 
 pub held_more : (image : List ℕ) (held : List (Option ℕ)) (n : ℕ) (new : Option ℕ) → length held ≡ n → ((k : ℕ) (sum : Option ℕ) → slice_get held k ≡ Some sum → IsHeld image (pointers_of image k) sum)
     → IsHeld image (pointers_of image n) new → (k : ℕ) (sum : Option ℕ) → slice_get (held ++ new ∷ []) k ≡ Some sum → IsHeld image (pointers_of image k) sum
-held_more image held n new size each this k sum e =
-    let within = slice_get_within (held ++ new ∷ []) k sum e in
-    let is : get_or (held ++ new ∷ []) k sum ≡ sum = get_or_from_slice_get (held ++ new ∷ []) k sum sum e in
-    elim (cases_lt k (length held)) [
-      | inl l ↦ each k sum (slice_get-get_or held k sum l ∙ ap (λ (x : Option ℕ). Some x) (sym (get_or_append_left held (new ∷ []) sum k l) ∙ is))
-      | inr past ↦
-          let here : length held ≡ k = omega (arith, past, within, length_push held new) in
-          subst (λ (b : ℕ). IsHeld image (pointers_of image b) sum) (sym size ∙ here) (subst (IsHeld image (pointers_of image n)) (sym (get_or_push held new sum k here) ∙ is) this)
-    ]
+held_more image held n new size each this = each_after_push (λ (k : ℕ) (sum : Option ℕ). IsHeld image (pointers_of image k) sum) held n new size this each
 
 -- ---- the places of a piece
 
 pub next_of_inner : (image : List ℕ) (piece : Piece) (i : ℕ) → i + 1 < piece.count → next_in image piece i ≡ Some (slice_index (pointers_of image piece.header) (i + 1))
 next_of_inner image piece i l = rw (lt-ltb (i + 1) piece.count l) refl
 
-pub next_of_last : (image : List ℕ) (piece : Piece) (i : ℕ) → piece.count ≤ i + 1 → next_in image piece i ≡ piece.behind
+pub next_of_last : (image : List ℕ) (piece : Piece) (i : ℕ) → piece.count ≤ i + 1 → next_in image piece i ≡ piece.next
 next_of_last image piece i l = rw (le-ltb (i + 1) piece.count l) refl
 
 -- the next data block of the file
@@ -130,7 +108,7 @@ next_there image piece p i l = elim (cases_lt (i + 1) piece.count) [
       ∙ ap (λ (x : ℕ). Some x) (p.there (i + 1) more) ∙ sym (next_of_inner image piece i more)
   | inr last ↦
       let e : piece.position + i + 1 ≡ piece.position + piece.count = omega (arith, l, last) in
-      ap (slice_get p.blocks) e ∙ p.behind ∙ sym (next_of_last image piece i last)
+      ap (slice_get p.blocks) e ∙ p.next ∙ sym (next_of_last image piece i last)
 ]
 
 -- the first data block of the file from the piece on
@@ -143,13 +121,13 @@ first_there image piece p = elim (cases_lt 0 piece.count) [
       ∙ ap (λ (x : ℕ). Some x) (p.there 0 some) ∙ sym (first_some some)
   | inr none ↦
       let e : piece.position ≡ piece.position + piece.count = omega (arith, none) in
-      ap (slice_get p.blocks) e ∙ p.behind ∙ sym (first_none none)
+      ap (slice_get p.blocks) e ∙ p.next ∙ sym (first_none none)
 ]
   where
     first_some : 0 < piece.count → first_in image piece ≡ Some (slice_index (pointers_of image piece.header) 0)
     first_some l = rw (lt-ltb 0 piece.count l) refl
 
-    first_none : piece.count ≤ 0 → first_in image piece ≡ piece.behind
+    first_none : piece.count ≤ 0 → first_in image piece ≡ piece.next
     first_none l = rw (le-ltb 0 piece.count l) refl
 
 -- one more piece, from the last to the first
@@ -175,8 +153,8 @@ places_back image cells later piece p on old this = record { placed = go }
 -- the piece of one header
 unfoldable pub piece_of : (image : List ℕ) (headers : List ℕ) (k : ℕ) (piece : Piece) → (a : AreHeaders image headers) → k < length headers → piece.header ≡ slice_index headers k → InImage image piece.header
     → piece.count ≡ length (pointers_of image piece.header) → piece.count ≤ 72 → piece.position ≡ length (flat_map (pointers_of image) (take k headers)) → piece.position + piece.count < 2 ^ 62
-    → slice_get (flat_map (pointers_of image) headers) (piece.position + piece.count) ≡ piece.behind → IsPiece image piece
-piece_of image headers k piece a l is inside count few position low behind = record {
+    → slice_get (flat_map (pointers_of image) headers) (piece.position + piece.count) ≡ piece.next → IsPiece image piece
+piece_of image headers k piece a l is inside count few position low next = record {
   inside = inside;
   count = count;
   few = few;
@@ -189,7 +167,7 @@ piece_of image headers k piece a l is inside count few position low behind = rec
       ap (λ (x : ℕ). slice_index (flat_map (pointers_of image) headers) (x + i)) position
       ∙ pointer_there image headers k l i (omega (arith, m, count, ap (λ (b : ℕ). length (pointers_of image b)) is))
       ∙ ap (λ (b : ℕ). slice_index (pointers_of image b) i) (sym is);
-  behind = behind;
+  next = next;
 }
 
 -- ---- what is known of a block that was seen
@@ -216,25 +194,8 @@ module _ (image : List ℕ) (cells later : List Bool) (on : AreStillNoted cells 
   pub all_seen_more : (seen : List (Option Seen)) (header : ℕ) (new : Seen) → AreAllSeen image cells seen → header < length seen → IsHeaderSeen image later header new → AreAllSeen image later (set seen header (Some new))
   all_seen_more seen header new a l this = record {
     size = length-set seen header (Some new) ∙ a.size;
-    each = go;
+    each = each_after_set (IsHeaderSeen image later) seen header new l this (all_seen_on seen a).each;
   }
-    where
-      go : (other : ℕ) (s : Seen) → slice_get (set seen header (Some new)) other ≡ Some (Some s) → IsHeaderSeen image later other s
-      go other s e = elim (cases_eq other header) [
-        | inl here ↦
-            let at : slice_get (set seen header (Some new)) header ≡ Some (Some new) =
-            slice_get-get_or (set seen header (Some new)) header None (omega (arith, l, length-set seen header (Some new))) ∙ ap (λ (x : Option Seen). Some x) (get_or-set_same seen header (Some new) None l) in
-            let same : Some new ≡ Some s = same_Some (Some new) (Some s) (sym at ∙ ap (slice_get (set seen header (Some new))) (sym here) ∙ e) in
-            subst (λ (b : ℕ). IsHeaderSeen image later b s) (sym here) (subst (IsHeaderSeen image later header) (same_Some new s same) this)
-        | inr apart ↦
-            let within = slice_get_within (set seen header (Some new)) other (Some s) e in
-            let m : other < length seen = omega (arith, within, length-set seen header (Some new)) in
-            let was : slice_get seen other ≡ Some (Some s) =
-            slice_get-get_or seen other None m
-            ∙ ap (λ (x : Option Seen). Some x) (sym (get_or-set_other seen header other (Some new) None apart))
-            ∙ sym (slice_get-get_or (set seen header (Some new)) other None within) ∙ e in
-            header_on other s (a.each other s was)
-      ]
 
 -- a block whose data blocks were all checked at one position
 pub seen_once : (image : List ℕ) (cells : List Bool) (piece : Piece) → IsPiece image piece → IsPieceNoted image cells piece → IsHeaderSeen image cells piece.header (record { piece = piece; is_settled = false })
@@ -281,7 +242,7 @@ module _ (image : List ℕ) (cells later : List Bool) (piece : Piece) (seen : Se
       → sequence_number image (slice_index (pointers_of image piece.header) i) ≢ seen.piece.position + i + 1
   at_position i e ne z = ne (z ∙ ap (λ (x : ℕ). x + i + 1) e)
 
-  -- with the same data block behind it
+  -- with the same data block after it
   same_next : (i : ℕ) → i < piece.count → next_in image seen.piece i ≡ next_in image piece i → IsOneNoted image later piece i
   same_next i l next inside =
       let m : i < length (pointers_of image piece.header) = omega (arith, l, p.count) in
@@ -308,10 +269,10 @@ module _ (image : List ℕ) (cells later : List Bool) (piece : Piece) (seen : Se
   }
 
   -- and the last one too
-  pub seen_all : seen.piece.behind ≡ piece.behind → IsPieceNoted image later piece
-  seen_all behind = record {
+  pub seen_all : seen.piece.next ≡ piece.next → IsPieceNoted image later piece
+  seen_all same = record {
     placed = λ i l. same_next i l (elim (cases_lt (i + 1) piece.count) [
-      | inr end ↦ next_of_last image seen.piece i (omega (arith, end, p.count, old.count)) ∙ behind ∙ sym (next_of_last image piece i end)
+      | inr end ↦ next_of_last image seen.piece i (omega (arith, end, p.count, old.count)) ∙ same ∙ sym (next_of_last image piece i end)
       | inl more ↦ same_inner i more
     ]);
   }
@@ -320,7 +281,7 @@ module _ (image : List ℕ) (cells later : List Bool) (piece : Piece) (seen : Se
 pub none_seen : (image : List ℕ) (cells : List Bool) (seen : List (Option Seen)) → seen ≡ replicate (block_count image) None → AreAllSeen image cells seen
 none_seen image cells seen none = record {
   size = ap length none ∙ length-replicate {A = Option Seen} (block_count image) None;
-  each = λ header s e. absurd (none-some s (same_there (block_count image) header None (Some s) (ap (λ (xs : List (Option Seen)). slice_get xs header) (sym none) ∙ e)));
+  each = λ header s e. absurd (none_there (block_count image) seen none header s e);
 }
 
 -- where a look at the last one is enough
@@ -331,9 +292,9 @@ known_piece image cells later piece seen (Some s) on p some a at known last = se
 
 -- where no look is needed
 pub settled_piece : (image : List ℕ) (cells : List Bool) (piece : Piece) (seen : List (Option Seen)) (o : Option Seen) → IsPiece image piece → AreAllSeen image cells seen
-    → slice_get seen piece.header ≡ Some o → is_known o piece.position ≡ true → HasBehind o piece.behind → IsPieceNoted image cells piece
-settled_piece image cells piece seen o p a at known (s, is, behind) =
-    seen_all image cells cells piece s (record { stay = λ cell e. e }) p (a.each piece.header s (at ∙ ap (λ (x : Option Seen). Some x) is)) (ap (λ (x : Option Seen). is_known x piece.position) (sym is) ∙ known) behind
+    → slice_get seen piece.header ≡ Some o → is_known o piece.position ≡ true → HasNext o piece.next → IsPieceNoted image cells piece
+settled_piece image cells piece seen o p a at known (s, is, same) =
+    seen_all image cells cells piece s (record { stay = λ cell e. e }) p (a.each piece.header s (at ∙ ap (λ (x : Option Seen). Some x) is)) (ap (λ (x : Option Seen). is_known x piece.position) (sym is) ∙ known) same
 
 -- where all were checked
 pub seen_now : (image : List ℕ) (cells later : List Bool) (piece : Piece) (seen : List (Option Seen)) (o : Option Seen) (settled : Bool) → AreStillNoted cells later → IsPiece image piece → AreAllSeen image cells seen
@@ -349,5 +310,5 @@ seen_now image cells later piece seen (Some s) settled on p a at known is n =
 pub first_pointer : (image : List ℕ) (piece : Piece) → IsPiece image piece → 0 < piece.count → first_in image piece ≡ Some (pointer image piece.header 0)
 first_pointer image piece p some = rw (lt-ltb 0 piece.count some) (ap (λ (x : ℕ). Some x) (pointer_at image piece.header 0 (omega (arith, some, p.count))))
 
-pub none_first : (image : List ℕ) (piece : Piece) → piece.count ≡ 0 → first_in image piece ≡ piece.behind
+pub none_first : (image : List ℕ) (piece : Piece) → piece.count ≡ 0 → first_in image piece ≡ piece.next
 none_first image piece none = rw (le-ltb 0 piece.count (omega (arith, none))) refl

@@ -45,7 +45,7 @@ noted_more image cells kind block n l h = record {
         let same = one_cell kind k block b (sym here) in
         subst (λ (x : FaultKind). Shows image x b) same.0 (subst (λ (x : ℕ). Shows image kind x) same.1 h)
     go k b e (inr (inl before)) = old k b (λ z. omega (arith, z, before)) e
-    go k b e (inr (inr behind)) = old k b (λ z. omega (arith, z, behind)) e
+    go k b e (inr (inr after)) = old k b (λ z. omega (arith, z, after)) e
 
 pub noted_here : (image : List ℕ) (cells : List Bool) (kind : FaultKind) (block : ℕ) → AreNoted image cells → block < block_count image → IsNoted (set cells (cell_of kind block) true) (cell_of kind block)
 noted_here image cells kind block n l = get_or-set_same cells (cell_of kind block) true false (cell_within image cells kind block n l)
@@ -90,7 +90,7 @@ none_listed image cells most = record {
 }
 
 module _ (image : List ℕ) (cells : List Bool) (most below : ℕ) (faults : List VolumeFault) (n : AreNoted image cells) (a : AreListed image cells most below faults) where
-  -- the fault of a set cell, behind the list
+  -- the fault of a set cell, after the list
   module _ (fault : VolumeFault) (here : cell_at fault ≡ below) (is_set : get_or cells below false ≡ true) where
     pushed_shown : All (λ (f : VolumeFault). Shows image f.kind f.block) (faults ++ fault ∷ [])
     pushed_shown = All-push (λ (f : VolumeFault). Shows image f.kind f.block) faults fault a.lists.shown (n.shown fault.kind fault.block (ap (λ (c : ℕ). get_or cells c false) here ∙ is_set))
@@ -150,7 +150,7 @@ one_way x y (inl a) (inr b) = let e = b.0 in omega (arith, a, e)
 one_way x y (inr a) (inl b) = let e = a.0 in omega (arith, b, e)
 one_way x y (inr a) (inr b) = let l = a.1 in let m = b.1 in omega (arith, l, m)
 
--- faults in order that stand in another list in order, each at least so far behind
+-- faults in order that stand in another list in order, each at least so far on
 module _ (all faults : List VolumeFault) (in_order : AllPairs StandsBefore all) (sorted : AllPairs StandsBefore faults) (d : VolumeFault) (held : (k : ℕ) → k < length all → Contains faults (get_or all k d)) where
   record IsAt (k : ℕ) : Type 0 where
     place : ℕ

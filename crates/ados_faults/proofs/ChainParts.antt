@@ -1,4 +1,4 @@
--- Parts of a chain of header and extension blocks: from a later block on, and the first blocks with a chain behind them.
+-- Parts of a chain of header and extension blocks: from a later block on, and the first blocks with a chain after them.
 use Rattle.ados_faults.proofs.Common.{◌≡◌, ℕ, zero, suc, ◌+◌, ◌-◌, ◌<◌, ◌≤◌, inl, inr, List, [], ◌∷◌, ◌++◌, length, take, drop, slice_index, sym, ap, ◌∙◌, subst, arith, Contains, cases_lt, append-nil, get_or-append-add, get_or_append_left, get_or_default, length-append, take_all, take_more, long, InImage, LinkedOnce, last_link, IsChain, block_count, length-once}
 use Rattle.ados_faults.proofs.Linking.{chain_more, chain_whole}
 use Rattle.std.proofs.lemmas.List.{append_assoc, get_or-drop, get_or-take, length-drop, length-take}
@@ -30,7 +30,7 @@ module _ (image : List ℕ) (link first : ℕ) (xs : List ℕ) (linked : LinkedO
     whole = λ inside. absurd (ends (subst (InImage image) last_same inside));
   }
 
--- a chain that ends outside the image, behind the first blocks of another one
+-- a chain that ends outside the image, after the first blocks of another one
 module _ (image : List ℕ) (link : ℕ) (xs : List ℕ) (c : IsChain image link xs) (next : ℕ) (leads : last_link image link xs ≡ next) (ys : List ℕ) (linked : LinkedOnce image link next ys) (ends : ¬ InImage image (last_link image link ys)) (inside : InImage image next) where
   last_of : (i : ℕ) → i < length xs → length xs ≤ i + 1 → long image (slice_index xs i) link ≡ slice_index ys 0
   last_of i l end = let e : i ≡ length xs - 1 = omega (arith, l, end) in ap (λ (k : ℕ). long image (slice_index xs k) link) e ∙ leads ∙ sym linked.head
@@ -67,7 +67,7 @@ module _ (image : List ℕ) (link : ℕ) (xs : List ℕ) (c : IsChain image link
             ends (subst (InImage image) (sym back ∙ ap (λ (k : ℕ). long image (slice_index ys k) link) end) there)
       ]
 
-  -- the first blocks with some of those behind them
+  -- the first blocks with some of those after them
   some_more : (k : ℕ) → k ≤ length ys → IsChain image link (xs ++ take k ys)
   some_more zero l = subst (IsChain image link) (sym (append-nil xs)) c
   some_more (suc k) l =

@@ -26,17 +26,6 @@ listed_on steps step other at = (at.0, pushed_stays steps step at.0 (slice_get_w
 pub all_steps : (image : List ℕ) (steps : List Step) (step : Step) → All (IsStep image) steps → IsStep image step → All (IsStep image) (steps ++ step ∷ [])
 all_steps image steps step old new = All-push (IsStep image) steps step old new
 
-pub pushed_cases : (steps : List Step) (new : Step) (k : ℕ) (step : Step) → slice_get (steps ++ new ∷ []) k ≡ Some step → (slice_get steps k ≡ Some step) ⊎ (new ≡ step)
-unfolding pushed_there
-pushed_cases steps new k step e = elim (cases_lt k (length steps)) [
-  | inl l ↦ inl (sym (pushed_stays steps new k l) ∙ e)
-  | inr past ↦
-      let within = slice_get_within (steps ++ new ∷ []) k step e in
-      let here : k ≡ length steps = omega (arith, past, within, length_push steps new) in
-      let there : slice_get (steps ++ new ∷ []) (length steps) ≡ Some new = (pushed_there steps new).1 in
-      inr (same_Some new step (sym there ∙ ap (slice_get (steps ++ new ∷ [])) (sym here) ∙ e))
-]
-
 -- ---- one more step, one more mark
 
 module _ (image : List ℕ) (cells : List Bool) (marks : Marks) (roles : List Taken) (steps : List Step) (w : IsWalked image cells marks roles steps) (block : ℕ) where

@@ -7,23 +7,21 @@ pub use Rattle.adf_block.specs.declared.layout.TheConstants.{DIRECTORY_TYPE, FIL
 pub use Rattle.ados_check.proofs.MarkLemmas.{IsMarkedMore, mark_read, marked_more, none_marked}
 pub use Rattle.ados_check.proofs.Roles.{only_root, place_not_root}
 pub use Rattle.ados_check.proofs.Ruling.{field_shows, type_shows}
-pub use Rattle.ados_check.specs.DataRules.{BreaksRule, data_evidence, kind_of_data}
+pub use Rattle.ados_check.specs.DataRules.{BreaksRule, kind_of_data}
 unfoldable pub use Rattle.ados_check.specs.Entries.{upper_name}
-pub use Rattle.ados_check.specs.Evidence.{IsFieldEvidence, IsTypeEvidence, evidence_of, sum_evidence}
 pub use Rattle.ados_check.specs.Marks.{mark_at}
 pub use Rattle.ados_check.specs.Rules.{HasBadField, HasBadSumAs, HasBadTypeAs, HasOtherCount, HasWrongName, kind_of}
 pub use Rattle.ados_check.specs.Source.{SourceView}
 pub use Rattle.ados_check.specs.declared.data_rules.DataRule.{DataRule}
 pub use Rattle.ados_check.specs.declared.data_rules.DataRule.TheVariants.{Link, Sequence, TooFew, TooMany}
 pub use Rattle.ados_check.specs.declared.data_rules.TheConstants.{DATA_RULES}
-pub use Rattle.ados_check.specs.declared.data_rules.Place.{Place}
 pub use Rattle.ados_check.specs.declared.evidence.Evidence.{Evidence}
 pub use Rattle.ados_check.specs.declared.mark.Mark.{Mark}
 pub use Rattle.ados_check.specs.declared.rules.FieldRule.{FieldRule}
 pub use Rattle.ados_check.specs.declared.rules.FieldRule.TheVariants.{Chain, Comment, FirstData, Name, NoLink, OwnKey, Parent, PointerCount}
 pub use Rattle.ados_check.specs.declared.rules.TheConstants.{FIELD_RULES, POINTER_RULES}
 pub use Rattle.ados_faults.specs.Listed.{AreClosed, AreFirstFaults, IsMarked, IsNamedAs, IsOtherKind, ListsFaults, Marks, ShowsMoreThan, ShowsOtherKind, StandsBefore, fault_of, rank, root_mark}
-pub use Rattle.ados_faults.specs.Values.{AreValues, BreaksData, BreaksField, FirstOf, HasFields, IsAPlace, IsCountEvidence, IsEvidenceOf, IsFirstOut, IsPointerEvidence, IsSequenceEvidence, IsSizeEvidence, IsTheEvidence, LeadsOut, NoneShows, ShowsDisk, data_place, extensions_to, is_extension, position_of}
+pub use Rattle.ados_faults.specs.Values.{AreValues, HasFields, IsEvidenceOf, IsTheEvidence, LeadsOut, NoneShows, ShowsDisk, extensions_to, is_extension}
 pub use Rattle.ados_faults.specs.declared.names.Named.{Named}
 pub use Rattle.ados_faults.specs.declared.pieces.Piece.{Piece}
 pub use Rattle.ados_faults.specs.declared.roles.Part.{Part}
@@ -33,13 +31,13 @@ pub use Rattle.ados_faults.specs.declared.roles.Taken.TheVariants.{Nothing, One,
 pub use Rattle.ados_faults.specs.declared.walk.Step.{Step}
 pub use Rattle.ados_faults.specs.steps.Blocks.{AreEntriesOf, AreMet, AreNextMet, AreSlotsMet, AreTypesMet, HasTypeAs, HoldsEntries, IsEntryIn, IsGrown, IsOfType}
 pub use Rattle.ados_faults.specs.steps.Chain.{AreHeaders, IsChain, IsPiece, first_in, next_in}
-pub use Rattle.ados_faults.specs.steps.FileNotes.{AreAllFilesNoted, AreAllSeen, AreBlocksNoted, AreHeld, ArePlacesNoted, HasBehind, IsFileNoted, IsHeaderSeen, IsHeld, IsOneNoted, IsPieceNoted, IsPlaceNoted, IsRuleNoted, is_known}
-pub use Rattle.ados_faults.specs.steps.Longs.{AreLongs, AreOfEach, AreTabled}
+pub use Rattle.ados_faults.specs.steps.FileNotes.{AreAllFilesNoted, AreAllSeen, AreHeld, ArePlacesNoted, HasNext, IsFileNoted, IsHeaderSeen, IsHeld, IsOneNoted, IsPieceNoted, IsPlaceNoted, IsRuleNoted, is_known}
+pub use Rattle.ados_faults.specs.steps.Longs.{AreLongs, AreOfEach}
 pub use Rattle.ados_faults.specs.steps.Looks.{AreLookedAt, AreWrongsNoted, IsFieldNoted, IsLookedAt}
 pub use Rattle.ados_faults.specs.steps.Named.{AreDuplicatesNoted, AreFirstMet, AreFirstNames, AreKnown, AreListedNoted, AreNamesKept, AreNamesMet, AreNamesNoted, AreStillKnown, HasNameOf, IsFirstName, IsNameMet, name_cmp, named_in, named_of}
 pub use Rattle.ados_faults.specs.steps.Noted.{AreListed, AreNoted, AreStillNoted, IsFull, IsNoted, ListsNoted, cell_at, cell_of}
 pub use Rattle.ados_faults.specs.steps.Roles.{AreBacked, AreCovered, AreCoveredBy, HasNumber, HasTwo, IsBacked, IsCovered, IsListed, lacks, number_of, part_rank, root_step, step_of, taken_at, with_number}
-pub use Rattle.ados_faults.specs.steps.Tails.{ArePlacedAt, AreSettled, AreTails, IsAlong, IsAlongFile, IsFront, IsTail, LeadsTo, is_known_at, is_settled_at}
+pub use Rattle.ados_faults.specs.steps.Tails.{ArePlacedAt, AreSettled, AreTails, IsAlong, IsAlongFile, IsHeaderList, IsTail, IsSummary, is_known_at, is_settled_at}
 pub use Rattle.ados_faults.specs.steps.Walked.{AreKept, AreOutsideNoted, AreTwiceNoted, AreVisited, IsMarkedBy, IsMarkedFree, IsMet, IsMetBy, IsPassed, IsStep, IsVisited, IsWalked}
 pub use Rattle.ados_model.proofs.KeyLists.{Contains-here, Contains-later, Contains-nil, length-once}
 pub use Rattle.ados_model.specs.Faults.{AreDataBlocks, FurtherAreInside, HasDuplicateName, HasName, HasShortName, HasSum, InImage, IsDataAt, IsFile, IsOfs, IsPlace, IsUsedTwice, LeadOn, LeadsInside, LinkedOnce, PlaceNames, Reached, Shows, count_of_size, last_link, pointers_of, root_of}
@@ -61,6 +59,5 @@ pub use Rattle.std.proofs.lemmas.List.Quantifiers.{all_pairs_push}
 pub use Rattle.std.proofs.lemmas.List.Sums.{sum_by-append, sum_by_more}
 pub use Rattle.std.proofs.lemmas.Option.{get_or_from_slice_get, none-some, same_Some, slice_get-get_or, slice_get_past, slice_get_read, slice_get_within, unwrap_or-slice_get}
 pub use Rattle.std.specs.BTreeMap.{BTreeMap, get, is_at}
-pub use Rattle.std.specs.BTreeSet.{BTreeSet, contains}
 pub use Rattle.std.specs.List.{All, AllPairs, Contains, flat_map, slice_get, sum_by}
-pub use Rattle.std.specs.Option.{is_some, option_and_then, option_map, option_or}
+pub use Rattle.std.specs.Option.{is_some, option_and_then, option_map}

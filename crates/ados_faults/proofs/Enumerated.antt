@@ -167,15 +167,15 @@ each_entry image dir blocks n slots next all block s h = complete h s refl
     here h t e l inside =
         subst (λ (b : ℕ). Contains blocks (long image b (FIRST_SLOT + t))) (sym e) (slots.met t l (subst (λ (b : ℕ). LeadsInside image b (FIRST_SLOT + t)) e inside))
 
-    behind : (h : ℕ) → Contains blocks h → LeadsInside image h NEXT_IN_CHAIN → Contains blocks (long image h NEXT_IN_CHAIN)
-    behind h c inside =
+    next_there : (h : ℕ) → Contains blocks h → LeadsInside image h NEXT_IN_CHAIN → Contains blocks (long image h NEXT_IN_CHAIN)
+    next_there h c inside =
         let e : slice_index blocks c.0 ≡ h = get_or_default blocks c.0 0 h c.1 ∙ c.2 in
         subst (λ (b : ℕ). Contains blocks (long image b NEXT_IN_CHAIN)) e (next.met c.0 (omega (arith, c.1, all)) c.1 (subst (λ (b : ℕ). LeadsInside image b NEXT_IN_CHAIN) (sym e) inside))
 
     placed : {h i : ℕ} {role next : Role} → IsPlace image h role i next → LeadsInside image h i → ((t : ℕ) → role ≡ Entry dir t → Contains blocks h) → (s : ℕ) → next ≡ Entry dir s → Contains blocks (long image h i)
     placed {h = h} (root_slot {s = t} l n) inside before s e = here h t (same_dir h dir t s e) l inside
     placed {h = h} (directory_slot {s = t} d l n) inside before s e = here h t (same_dir h dir t s e) l inside
-    placed {h = h} (next_entry n) inside before s e = behind h (before s e) inside
+    placed {h = h} (next_entry n) inside before s e = next_there h (before s e) inside
     placed _ inside before s e = absurd (cc e)
 
     complete : {block : ℕ} {role : Role} → Reached image block role → (s : ℕ) → role ≡ Entry dir s → Contains blocks block

@@ -1,6 +1,5 @@
 -- What files show stays noted, and is noted file by file.
-use Rattle.ados_faults.proofs.Common.{◌≡◌, ℕ, ◌+◌, inl, inr, List, Bool, Option, get_or, ◌∙◌, subst, arith, slice_get, kind_of_data, BadCount, AreDataBlocks, IsFile, FILE_TYPE, IsOfType, AreBlocksNoted, ArePlacesNoted, IsFileNoted, IsPlaceNoted, AreStillNoted, cell_of}
-use Rattle.ados_faults.proofs.SameBlocks.{same_blocks}
+use Rattle.ados_faults.proofs.Common.{ℕ, ◌+◌, inl, inr, List, Bool, Option, get_or, arith, slice_get, kind_of_data, BadCount, IsFile, FILE_TYPE, IsOfType, ArePlacesNoted, IsFileNoted, IsPlaceNoted, AreStillNoted, cell_of}
 
 module _ (image : List ℕ) (cells later : List Bool) (on : AreStillNoted cells later) where
   pub placed_on : (block position : ℕ) (next : Option ℕ) → IsPlaceNoted image cells block position next → IsPlaceNoted image later block position next
@@ -17,10 +16,6 @@ module _ (image : List ℕ) (cells later : List Bool) (on : AreStillNoted cells 
       sum = λ ofs h. on.stay (cell_of BadCount file) (b.sum ofs h);
     };
   }
-
--- by any list of its data blocks
-pub file_noted : (image : List ℕ) (cells : List Bool) (file : ℕ) (blocks given : List ℕ) → AreDataBlocks image file blocks → given ≡ blocks → AreBlocksNoted image cells file given → IsFileNoted image cells file
-file_noted image cells file blocks given d e b = record { noted = λ other o. subst (AreBlocksNoted image cells file) (e ∙ same_blocks image file blocks other d o) b }
 
 -- an entry with the type of files
 pub file_of : (image : List ℕ) (block : ℕ) → IsOfType image FILE_TYPE block → IsFile image block

@@ -17,11 +17,11 @@ pub mod OtherKinds
 pub mod Looking
 pub mod AtSteps
 pub mod Each
-pub mod SameBlocks
+pub mod SameLinks
 pub mod FileNotes
 pub mod ByHeaders
 pub mod TailNotes
-pub mod Fronts
+pub mod HeaderLists
 pub mod Along
 pub mod FileData
 pub mod Searching

@@ -1,11 +1,11 @@
 -- Entries of one directory whose names are equal in upper case have the same name, and are noted.
-use Rattle.ados_faults.proofs.Common.{◌≡◌, ◌≢◌, ℕ, ◌-◌, ◌<◌, ◌≤◌, inl, inr, Bool, true, cond, List, [], ◌∷◌, ◌++◌, length, take, drop, map, replicate, get_or, slice_index, set, Option, Some, None, refl, sym, ap, ◌∙◌, subst, arith, ◌+◌, length-set, get_or-set_same, get_or-set_other, slice_get, option_and_then, BTreeMap, get, is_at, cases_Bool, cases_eq, cases_lt, get_or_from_slice_get, none-some, same_Some, slice_get-get_or, slice_get_past, slice_get_within, get_or_append_left, get_or_push, length-map, length-replicate, length_push, take_at, IsImage, text_at, block_count, byte_at, DIRECTORY_TYPE, NAME_BYTE, Entry, DuplicateName, HasDuplicateName, HasShortName, Reached, AreEntriesOf, HoldsEntries, IsEntryIn, IsOfType, AreDuplicatesNoted, AreFirstMet, AreFirstNames, AreKnown, AreNamesKept, AreNamesMet, AreNamesNoted, AreStillKnown, HasNameOf, IsFirstName, IsNameMet, name_cmp, named_in, named_of, AreStillNoted, IsNoted, cell_of, Same, upper, upper_name, Named, AreListedNoted, AreNextMet, AreSlotsMet, Contains}
+use Rattle.ados_faults.proofs.Common.{◌≡◌, ◌≢◌, ℕ, ◌-◌, ◌<◌, ◌≤◌, inl, inr, Bool, true, cond, List, [], ◌∷◌, ◌++◌, length, take, drop, map, replicate, get_or, slice_index, set, Option, Some, None, refl, sym, ap, ◌∙◌, subst, arith, ◌+◌, length-set, get_or-set_same, get_or-set_other, slice_get, option_and_then, BTreeMap, get, is_at, cases_Bool, cases_eq, cases_lt, none-some, same_Some, slice_get-get_or, slice_get_past, slice_get_within, length-map, length-replicate, take_at, IsImage, text_at, block_count, byte_at, DIRECTORY_TYPE, NAME_BYTE, Entry, DuplicateName, HasDuplicateName, HasShortName, Reached, AreEntriesOf, HoldsEntries, IsEntryIn, IsOfType, AreDuplicatesNoted, AreFirstMet, AreFirstNames, AreKnown, AreNamesKept, AreNamesMet, AreNamesNoted, AreStillKnown, HasNameOf, IsFirstName, IsNameMet, name_cmp, named_in, named_of, AreStillNoted, IsNoted, cell_of, Same, upper, upper_name, Named, AreListedNoted, AreNextMet, AreSlotsMet}
 use Rattle.std.specs.FinMap.{nat_cmp-IsAntisymmetric, slice_cmp-IsAntisymmetric}
 use Rattle.std.specs.Map.{lookup}
 use Rattle.ados_check.proofs.Entered.{is_equal}
 use Rattle.ados_check.proofs.Texts.{length-bytes_at}
 use Rattle.ados_faults.proofs.Enumerated.{dir_of, each_entry}
-use Rattle.ados_faults.proofs.Firsts.{one_more, same_there}
+use Rattle.ados_faults.proofs.Firsts.{each_after_push, one_more, same_there}
 use Rattle.ados_faults.proofs.Insides.{reached_inside}
 
 pub length_text : (image : List ℕ) (block : ℕ) → IsImage image → block < block_count image → byte_at image block NAME_BYTE ≤ 30 → length (text_at image block NAME_BYTE) ≡ byte_at image block NAME_BYTE
@@ -82,20 +82,9 @@ first_none image known = record { each = λ block name e. absurd (omega (arith, 
 
 pub first_more : (image : List ℕ) (known later : BTreeMap (List ℕ) ℕ) (first : List (Option ℕ)) (n : ℕ) (new : Option ℕ) → length first ≡ n → AreStillKnown known later → AreFirstSoFar image known first
     → IsFirstName image later n new → AreFirstSoFar image later (first ++ new ∷ [])
-first_more image known later first n new size stay f this = record { each = go }
-  where
-    go : (block : ℕ) (name : Option ℕ) → slice_get (first ++ new ∷ []) block ≡ Some name → IsFirstName image later block name
-    go block name e =
-        let within = slice_get_within (first ++ new ∷ []) block name e in
-        let is : get_or (first ++ new ∷ []) block name ≡ name = get_or_from_slice_get (first ++ new ∷ []) block name name e in
-        elim (cases_lt block (length first)) [
-          | inl l ↦
-              first_on image known later block name stay
-              (f.each block name (slice_get-get_or first block name l ∙ ap (λ (x : Option ℕ). Some x) (sym (get_or_append_left first (new ∷ []) name block l) ∙ is)))
-          | inr past ↦
-              let here : length first ≡ block = omega (arith, past, within, length_push first new) in
-              subst (λ (b : ℕ). IsFirstName image later b name) (sym size ∙ here) (subst (IsFirstName image later n) (sym (get_or_push first new name block here) ∙ is) this)
-        ]
+first_more image known later first n new size stay f this = record {
+  each = each_after_push (IsFirstName image later) first n new size this (λ block name e. first_on image known later block name stay (f.each block name e));
+}
 
 -- ---- names of the same entries
 

@@ -1,34 +1,34 @@
 -- What is known of chains of header and extension blocks that other files have too.
-use Rattle.ados_faults.proofs.Common.{flat_map, flat_map-append, ◌≡◌, ◌≢◌, ℕ, ◌+◌, ◌-◌, ◌<◌, ◌==◌, ◌||◌, not, inl, inr, Bool, true, false, List, ◌++◌, length, take, drop, slice_index, replicate, set, Option, Some, None, refl, sym, ap, ◌∙◌, subst, arith, length-set, get_or-set_same, get_or-set_other, slice_get, cases_eq, cases_lt, eqb-true, false≢true, or_cases, get_or-append-add, length-append, length-replicate, take-append-drop, none-some, same_Some, slice_get-get_or, slice_get_past, slice_get_within, block_count, sequence_number, NEXT_EXTENSION, InImage, IsOfs, LinkedOnce, last_link, pointers_of, Sequence, ArePlacesNoted, IsPlaceNoted, AreStillNoted, ArePlacedAt, AreSettled, AreTails, IsTail, LeadsTo, is_settled_at}
-use Rattle.ados_faults.specs.declared.front.Reach.{Reach}
-use Rattle.ados_faults.specs.declared.front.Tail.{Tail}
+use Rattle.ados_faults.proofs.Common.{flat_map, flat_map-append, ◌≡◌, ℕ, ◌+◌, ◌-◌, ◌<◌, ◌==◌, ◌||◌, not, inl, inr, Bool, true, List, ◌++◌, length, take, drop, slice_index, replicate, set, Option, Some, None, refl, sym, ap, ◌∙◌, subst, arith, length-set, slice_get, cases_eq, cases_lt, eqb-true, false≢true, or_cases, get_or-append-add, length-append, length-replicate, take-append-drop, slice_get-get_or, slice_get_past, block_count, sequence_number, NEXT_EXTENSION, InImage, IsOfs, LinkedOnce, last_link, pointers_of, Sequence, ArePlacesNoted, IsPlaceNoted, AreStillNoted, ArePlacedAt, AreSettled, AreTails, IsTail, IsSummary, is_settled_at}
+use Rattle.ados_faults.specs.declared.data_summary.DataSummary.{DataSummary}
+use Rattle.ados_faults.specs.declared.tail.Tail.{Tail}
 use Rattle.ados_faults.proofs.ByHeaders.{placed_again}
 use Rattle.ados_faults.proofs.FileNotes.{placed_on}
-use Rattle.ados_faults.proofs.Firsts.{same_there}
-use Rattle.ados_faults.proofs.SameBlocks.{same_links}
+use Rattle.ados_faults.proofs.Firsts.{each_after_set, none_there}
+use Rattle.ados_faults.proofs.SameLinks.{same_links}
 use Rattle.std.proofs.lemmas.Bool.{eq-eqb}
 
--- what stands behind a list
-pub get_behind : (xs ys : List ℕ) (i : ℕ) → slice_get (xs ++ ys) (length xs + i) ≡ slice_get ys i
-get_behind xs ys i = elim (cases_lt i (length ys)) [
+-- what comes after a list
+pub get_after : (xs ys : List ℕ) (i : ℕ) → slice_get (xs ++ ys) (length xs + i) ≡ slice_get ys i
+get_after xs ys i = elim (cases_lt i (length ys)) [
   | inl l ↦
       slice_get-get_or (xs ++ ys) (length xs + i) 0 (omega (arith, l, length-append xs ys))
       ∙ ap (λ (x : ℕ). Some x) (get_or-append-add xs ys i 0) ∙ sym (slice_get-get_or ys i 0 l)
   | inr past ↦ slice_get_past (xs ++ ys) (length xs + i) (omega (arith, past, length-append xs ys)) ∙ sym (slice_get_past ys i past)
 ]
 
--- the data blocks of the first headers, and of those behind them
+-- the data blocks of the first headers, and of those after them
 pub flat_parts : (image : List ℕ) (headers : List ℕ) (k : ℕ) → flat_map (pointers_of image) headers ≡ flat_map (pointers_of image) (take k headers) ++ flat_map (pointers_of image) (drop k headers)
 flat_parts image headers k = ap (flat_map (pointers_of image)) (sym (take-append-drop k headers)) ∙ flat_map-append (pointers_of image) (take k headers) (drop k headers)
 
 module _ (image : List ℕ) (cells : List Bool) (xs ys : List ℕ) where
   -- the data blocks from a position on, by themselves
-  pub placed_behind : ArePlacesNoted image cells (xs ++ ys) (length xs) → ArePlacedAt image cells ys (length xs)
-  placed_behind p = record {
+  pub placed_alone : ArePlacesNoted image cells (xs ++ ys) (length xs) → ArePlacedAt image cells ys (length xs)
+  placed_alone p = record {
     placed = λ i l inside.
         let is : slice_index (xs ++ ys) (length xs + i) ≡ slice_index ys i = get_or-append-add xs ys i 0 in
         let e : length xs + i + 1 ≡ length xs + (i + 1) = omega arith in
-        let next : slice_get (xs ++ ys) (length xs + i + 1) ≡ slice_get ys (i + 1) = ap (slice_get (xs ++ ys)) e ∙ get_behind xs ys (i + 1) in
+        let next : slice_get (xs ++ ys) (length xs + i + 1) ≡ slice_get ys (i + 1) = ap (slice_get (xs ++ ys)) e ∙ get_after xs ys (i + 1) in
         subst (λ (b : ℕ). IsPlaceNoted image cells b (length xs + i) (slice_get ys (i + 1))) is
         (subst (IsPlaceNoted image cells (slice_index (xs ++ ys) (length xs + i)) (length xs + i)) next
         (p.placed (length xs + i) (omega arith) (omega (arith, l, length-append xs ys)) (subst (InImage image) (sym is) inside)));
@@ -42,7 +42,7 @@ module _ (image : List ℕ) (cells : List Bool) (xs ys : List ℕ) where
         let e : length xs + j ≡ i = omega (arith, from) in
         let is : slice_index (xs ++ ys) i ≡ slice_index ys j = ap (slice_index (xs ++ ys)) (sym e) ∙ get_or-append-add xs ys j 0 in
         let f : i + 1 ≡ length xs + (j + 1) = omega (arith, from) in
-        let next : slice_get (xs ++ ys) (i + 1) ≡ slice_get ys (j + 1) = ap (slice_get (xs ++ ys)) f ∙ get_behind xs ys (j + 1) in
+        let next : slice_get (xs ++ ys) (i + 1) ≡ slice_get ys (j + 1) = ap (slice_get (xs ++ ys)) f ∙ get_after xs ys (j + 1) in
         subst (λ (b : ℕ). IsPlaceNoted image cells b i (slice_get (xs ++ ys) (i + 1))) (sym is)
         (subst (IsPlaceNoted image cells (slice_index ys j) i) (sym next)
         (subst (λ (x : ℕ). IsPlaceNoted image cells (slice_index ys j) x (slice_get ys (j + 1))) e
@@ -89,7 +89,7 @@ module _ (image : List ℕ) (cells later : List Bool) (on : AreStillNoted cells 
     headers = t.headers;
     linked = t.linked;
     ends = t.ends;
-    leads = t.leads;
+    summed = t.summed;
     placed = λ ofs. placed_stays (flat_map (pointers_of image) t.headers) tail.position (t.placed ofs);
     settled = λ ofs both. record { each = λ i l inside. on.stay _ ((t.settled ofs both).each i l inside) };
   }
@@ -101,42 +101,25 @@ module _ (image : List ℕ) (cells later : List Bool) (on : AreStillNoted cells 
 pub all_tails_more : (image : List ℕ) (cells : List Bool) (tails : List (Option Tail)) (block : ℕ) (new : Tail) → AreTails image cells tails → block < length tails → IsTail image cells block new → AreTails image cells (set tails block (Some new))
 all_tails_more image cells tails block new a l this = record {
   size = length-set tails block (Some new) ∙ a.size;
-  each = go;
+  each = each_after_set (IsTail image cells) tails block new l this a.each;
 }
-  where
-    go : (other : ℕ) (t : Tail) → slice_get (set tails block (Some new)) other ≡ Some (Some t) → IsTail image cells other t
-    go other t e = elim (cases_eq other block) [
-      | inl here ↦
-          let at : slice_get (set tails block (Some new)) block ≡ Some (Some new) =
-          slice_get-get_or (set tails block (Some new)) block None (omega (arith, l, length-set tails block (Some new))) ∙ ap (λ (x : Option Tail). Some x) (get_or-set_same tails block (Some new) None l) in
-          let same : Some new ≡ Some t = same_Some (Some new) (Some t) (sym at ∙ ap (slice_get (set tails block (Some new))) (sym here) ∙ e) in
-          subst (λ (b : ℕ). IsTail image cells b t) (sym here) (subst (IsTail image cells block) (same_Some new t same) this)
-      | inr apart ↦
-          let within = slice_get_within (set tails block (Some new)) other (Some t) e in
-          let m : other < length tails = omega (arith, within, length-set tails block (Some new)) in
-          let was : slice_get tails other ≡ Some (Some t) =
-          slice_get-get_or tails other None m
-          ∙ ap (λ (x : Option Tail). Some x) (sym (get_or-set_other tails block other (Some new) None apart))
-          ∙ sym (slice_get-get_or (set tails block (Some new)) other None within) ∙ e in
-          a.each other t was
-    ]
 
 -- no chain is known
 pub none_known : (image : List ℕ) (cells : List Bool) (tails : List (Option Tail)) → tails ≡ replicate (block_count image) None → AreTails image cells tails
 none_known image cells tails none = record {
   size = ap length none ∙ length-replicate {A = Option Tail} (block_count image) None;
-  each = λ block tail e. absurd (none-some tail (same_there (block_count image) block None (Some tail) (ap (λ (xs : List (Option Tail)). slice_get xs block) (sym none) ∙ e)));
+  each = λ block tail e. absurd (none_there (block_count image) tails none block tail e);
 }
 
 -- a chain that was checked with others before it, once more or for the first time
-pub tail_now : (image : List ℕ) (cells : List Bool) (block : ℕ) (headers : List ℕ) (o : Option Tail) (reach : Reach) (position : ℕ) (settled : Bool) → LinkedOnce image NEXT_EXTENSION block headers → ¬ InImage image (last_link image NEXT_EXTENSION headers)
-    → LeadsTo image (flat_map (pointers_of image) headers) reach → (IsOfs image → ArePlacedAt image cells (flat_map (pointers_of image) headers) position) → ((t : Tail) → o ≡ Some t → IsTail image cells block t)
-    → settled ≡ is_settled_at o position → IsTail image cells block (record { reach = reach; position = position; is_settled = settled })
-tail_now image cells block headers o reach position settled linked ends leads placed old is = record {
+pub tail_now : (image : List ℕ) (cells : List Bool) (block : ℕ) (headers : List ℕ) (o : Option Tail) (summary : DataSummary) (position : ℕ) (settled : Bool) → LinkedOnce image NEXT_EXTENSION block headers → ¬ InImage image (last_link image NEXT_EXTENSION headers)
+    → IsSummary image (flat_map (pointers_of image) headers) summary → (IsOfs image → ArePlacedAt image cells (flat_map (pointers_of image) headers) position) → ((t : Tail) → o ≡ Some t → IsTail image cells block t)
+    → settled ≡ is_settled_at o position → IsTail image cells block (record { summary = summary; position = position; is_settled = settled })
+tail_now image cells block headers o summary position settled linked ends summed placed old is = record {
   headers = headers;
   linked = linked;
   ends = ends;
-  leads = leads;
+  summed = summed;
   placed = placed;
   settled = λ ofs both. go o ofs old (sym is ∙ both);
 }

@@ -10,7 +10,7 @@ use Rattle.ados_model.specs.declared.role.Role.{Role}
 use Rattle.ados_model.specs.declared.role.Role.TheVariants.{Root}
 use Rattle.ados_model.specs.Faults.{IsPlace, LeadsInside, Reached, Shows, root_of}
 
--- the number of a kind
+-- the number of a kind of fault
 abbrev pub rank : FaultKind → ℕ
 rank NotADosDisk = 0
 rank UnsupportedKind = 1
@@ -30,11 +30,11 @@ rank LinkEntry = 14
 rank MarkedFree = 15
 rank NoMemory = 16
 
--- the fault of a lower block, or of the same block with a kind of lower number
+-- the first fault is one of a lower block, or of the same block with a kind of lower number
 abbrev pub StandsBefore : VolumeFault → VolumeFault → Type 0
 StandsBefore fault other = (fault.block < other.block) ⊎ ((fault.block ≡ other.block) × (rank fault.kind < rank other.kind))
 
--- at most this many faults that the image shows, by block and then by kind, each once
+-- the list has at most this many faults, all of which the image shows, by block and then by kind, each once
 pub record ListsFaults (image : List ℕ) (most : ℕ) (faults : List VolumeFault) : Type 0 where
   pub shown : All (λ fault. Shows image fault.kind fault.block) faults
   pub in_order : AllPairs StandsBefore faults
@@ -48,24 +48,24 @@ fault_of kind block = record { kind = kind; block = block }
 abbrev pub ListsAll : List ℕ → List VolumeFault → Type 0
 ListsAll image faults = (kind : FaultKind) (block : ℕ) → Shows image kind block → Contains faults (fault_of kind block)
 
--- so it is, unless there are more
+-- each fault that the image shows is in the list, unless `more` says that there are others
 abbrev pub ListsEach : List ℕ → Bool → List VolumeFault → Type 0
 ListsEach image more faults = more ≡ false → ListsAll image faults
 
--- more than this many faults that the image shows, by block and then by kind, each once
+-- the image shows more than this many faults: they are in some list, by block and then by kind, each once
 pub record ShowsMoreThan (image : List ℕ) (most : ℕ) : Type 0 where
   pub faults : List VolumeFault
   pub shown : All (λ fault. Shows image fault.kind fault.block) faults
   pub in_order : AllPairs StandsBefore faults
   pub many : most < length faults
 
--- each fault that the image shows is in the list, or stands behind all of the list
+-- each fault that the image shows is in the list, or stands after all of the list
 abbrev pub AreTheFirst : List ℕ → List VolumeFault → Type 0
 AreTheFirst image faults =
     (kind : FaultKind) (block : ℕ) → Shows image kind block → Contains faults (fault_of kind block) ⊎ All (λ fault. StandsBefore fault (fault_of kind block)) faults
 
--- the first faults that the image shows. There are more exactly if it shows more than the most that a list may have, and
--- then the list has so many
+-- the list has the first faults that the image shows. `more` says exactly whether the image shows more than a list may
+-- have, and then the list has that many
 pub record AreFirstFaults (image : List ℕ) (most : ℕ) (more : Bool) (faults : List VolumeFault) : Type 0 where
   pub first : AreTheFirst image faults
   pub full : more ≡ true → length faults ≡ most
@@ -84,8 +84,8 @@ ShowsOtherKind image = (kind : FaultKind) × IsOtherKind image kind
 abbrev pub ListsKindAlone : List ℕ → Bool → List VolumeFault → Type 0
 ListsKindAlone image more faults = (kind : FaultKind) → IsOtherKind image kind → (faults ≡ fault_of kind 0 ∷ []) × (more ≡ false)
 
--- the faults of a disk as they are told, at most so many: of a disk of another kind that alone; of any other the first ones that it
--- shows, and exactly whether there are more; each one, if there are not
+-- the list is what `all_faults` returns: of a disk of another kind that fault alone; of any other the first faults that it
+-- shows, at most so many, and all of them unless `more` says that there are others
 pub record AreAllFaults (image : List ℕ) (most : ℕ) (more : Bool) (faults : List VolumeFault) : Type 0 where
   pub alone : ListsKindAlone image more faults
   pub each : ¬ ShowsOtherKind image → ListsEach image more faults

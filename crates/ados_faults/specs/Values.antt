@@ -27,8 +27,7 @@ use Rattle.ados_model.specs.declared.role.Role.{Role}
 use Rattle.ados_model.specs.declared.role.Role.TheVariants.{Entry, Data, Extension}
 use Rattle.ados_faults.specs.Listed.{IsOtherKind, Marks}
 
--- the block has fields in the role of its mark: in FFS a data block has none. The holder of a data block is in the
--- image
+-- the block has fields in the role of its mark. A data block has fields in OFS alone, if its holder is in the image
 abbrev pub HasFields : List ℕ → Mark → Role → Type 0
 HasFields image mark (Data file) = IsOfs image × InImage image mark.holder
 HasFields image mark _ = ⊤
@@ -42,7 +41,7 @@ has_pointer image block k =
 abbrev pub pointed_by : List ℕ → ℕ → ℕ → Option ℕ
 pointed_by image block k = if has_pointer image block k then Some (pointer image block k) else None
 
--- the data block behind the place of a mark: of the next pointer of its holder, or of the first one of the extension
+-- the data block after the place of a mark: of the next pointer of its holder, or of the first one of the extension
 -- block that follows the holder
 abbrev pub next_data : List ℕ → Mark → Option ℕ
 next_data image mark = option_or (pointed_by image mark.holder (FIRST_POINTER - mark.long + 1)) (pointed_by image (long image mark.holder NEXT_EXTENSION) 0)

@@ -1,4 +1,4 @@
--- The walk past faults, step by step.
+-- The search for all faults, step by step.
 pub mod Noted
 pub mod Roles
 pub mod Walked

@@ -55,7 +55,7 @@ fn extensions_to(image: &Image, marks: &[Option<Mark>], block: u32) -> Option<u3
     None
 }
 
-/// The data block behind the place of a mark, by the holder and the extension block that follows it.
+/// The data block after the place of a mark, by the holder and the extension block that follows it.
 fn next_data(image: &Image, mark: Mark) -> Option<u32>
     requires { InImage image.now mark.holder }
     ensures { result ≡ next_data image.now mark }

@@ -31,8 +31,8 @@ pub(crate) fn list_entries(
     Ok(())
 }
 
-/// Whether each chain of a directory starts with one of these blocks, so that it has no entries but those that the list of another
-/// one has.
+/// Whether each chain of a directory starts with one of these blocks. If these are the entries of another directory, this
+/// one has no others.
 pub(crate) fn starts_in(image: &Image, dir: u32, entries: &Blocks) -> bool
     requires inside { InImage image.now dir }
     requires met { AreMet image.now entries.now.has.items entries.now.list.items }
@@ -64,7 +64,7 @@ fn meet_slots(image: &Image, dir: u32, entries: &mut Blocks) -> Result<(), Alloc
     Ok(())
 }
 
-/// Adds the entries behind those in the list.
+/// Adds the entries after those in the list.
 fn meet_chains(
     image: &Image,
     dir: u32,

@@ -2,18 +2,22 @@
 //! block is, what was found there and what is expected.
 //!
 //! The walk visits blocks in roles, from the root, and goes on after a fault. It takes so few roles of each block that
-//! its time is linear in the size of the image, and these show whatever the block shows in any role. Then the entries of
-//! each directory and the header and extension blocks of each file are gone through once, by tables of a few bytes a block, since
-//! directories and files of a damaged image may share most of their blocks. Memory is linear.
+//! its time is linear in the size of the image, and these show whatever the block shows in any role.
+//!
+//! Then the entries of each directory are compared by their names, and the blocks of each file are checked at their
+//! places. Directories and files of a damaged image may share most of their blocks. So a directory whose chains all start
+//! among the entries of the one before it is passed over, and a file is followed up to a chain of extension blocks that is
+//! known from other files. Memory is linear: tables of a few bytes a block.
 #![tactic(auto)]
 
 // The list of faults.
 mod bits;
 mod blocks;
+mod data_summary;
 mod entries;
-mod file_blocks;
 mod files;
-mod front;
+mod header_list;
+mod header_table;
 mod kinds;
 mod listing;
 mod longs;
@@ -23,6 +27,7 @@ mod notes;
 mod pieces;
 mod roles;
 mod search;
+mod tail;
 mod typed;
 mod walk;
 

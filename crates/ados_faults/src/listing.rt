@@ -32,7 +32,7 @@ pub struct DiskFaults {
     pub marks: Vec<Option<Mark>>,
 }
 
-/// The first `most` of all faults of an image, as they are told to a user.
+/// The first `most` of all faults of an image, as a user sees them.
 ///
 /// Of an image that is no DOS disk, or one of an unsupported kind, this is the one fault: the rest of the image is not of
 /// this file system. Of any other each fault that it shows is in the list, unless `more` is true. The list is empty
@@ -40,8 +40,10 @@ pub struct DiskFaults {
 ///
 /// `more` is true exactly if the image shows more than `most`. Then the list has the first ones.
 ///
-/// Time is linear in the size of the image and the number of entries of all directories and of header and extension blocks of
-/// all files together. That is less than the number of blocks, unless directories or files share some.
+/// Time is linear in the size of the image, the number of entries of all directories, and the number of header and
+/// extension blocks of all files. These are fewer than the blocks, unless directories or files share some. A directory
+/// whose chains all start among the entries of the one before it counts as empty, and of a file the blocks of a chain that
+/// is known from other files do not count.
 pub fn all_faults(alloc: Global, image: &Image, most: usize) -> Result<AllFaults, AllocError>
     ensures lists { IfOk result (λ found. ListsFaults image.now most found.faults.items) }
     ensures none { IfOk result (λ found. 1 ≤ most → (found.faults.items ≡ []) ↔ ShowsNoFault image.now) }

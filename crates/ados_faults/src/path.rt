@@ -9,7 +9,7 @@ use ados_model::Role;
 use ados_name::Name;
 use std::alloc::{AllocError, Global};
 
-/// The most bytes of a path that is told, in the letters of the image. It has fewer names.
+/// The most bytes of a path, in the letters of the image. It has fewer names.
 const LONGEST_PATH: usize = 4_095;
 
 /// The path of the directory or file that a block belongs to, from the root, in letters (ISO 8859-1) with slashes. It
@@ -45,7 +45,7 @@ pub(crate) fn volume_name(alloc: Global, image: &Image) -> Result<String, AllocE
 }
 
 /// The entry that a block belongs to, and each directory above it, without the root. `None` if these are more than a path
-/// that is told has.
+/// has at most.
 fn entries_above(
     alloc: Global,
     marks: &[Option<Mark>],

@@ -1,23 +1,25 @@
 //! The data blocks of an OFS file, by the header and extension blocks whose pointers name them.
 //!
-//! A header or extension block of a damaged image may belong to many files. Its data blocks show the same in each of them, save for their
-//! positions: at two positions each shows that its sequence number is wrong. So they are checked at two positions at most,
-//! and then only the last one is, if another data block stands behind it.
+//! A header or extension block of a damaged image may belong to many files. Its data blocks show the same in each of them,
+//! but for their positions: at one of two positions each shows that its sequence number is wrong. So they are checked at
+//! two positions at most, and then only the last one is, if another data block comes after it.
 ghost use Rattle.std.specs.Prelude.{◌≡◌, ◌<◌, ◌+◌, ◌++◌, ℕ, All, Bool, IsTrue, List, None, Some, false, length, slice_index_or, slice_set, true};
 ghost use Rattle.adf_block.specs.Image.{block_count};
 ghost use Rattle.adf_block.specs.declared.layout.TheConstants.{FIRST_POINTER};
 ghost use Rattle.ados_model.specs.Faults.{AreDataBlocks, InImage, IsFile, IsOfs, pointers_of};
 ghost use Rattle.ados_check.specs.DataRules.{IsPlaced};
 ghost use Rattle.ados_faults.specs.steps.Chain.{IsPiece, first_in, next_in};
-ghost use Rattle.ados_faults.specs.steps.FileNotes.{AreAllSeen, AreHeld, ArePlacesNoted, IsHeld, IsOneNoted, IsPieceNoted, HasBehind, IsPlaceNoted, is_known};
+ghost use Rattle.ados_faults.specs.steps.FileNotes.{AreAllSeen, AreHeld, ArePlacesNoted, IsHeld, IsOneNoted, IsPieceNoted, HasNext, IsPlaceNoted, is_known};
 ghost use Rattle.ados_faults.specs.steps.Longs.{AreLongs, AreTabled};
-ghost use Rattle.ados_faults.specs.steps.Tails.{AreTails, IsFront, LeadsTo, is_settled_at};
+ghost use Rattle.ados_faults.specs.steps.Tails.{AreTails, IsHeaderList, IsSummary, is_settled_at};
 ghost use Rattle.ados_faults.specs.steps.Noted.{AreNoted, AreStillNoted};
 
 use crate::bits::is_inside;
-use crate::file_blocks::HeaderTable;
-use crate::front::{Front, Reach, Tail, is_settled_at};
+use crate::data_summary::DataSummary;
+use crate::header_list::HeaderList;
+use crate::header_table::HeaderTable;
 use crate::notes::Notes;
+use crate::tail::{Tail, is_settled_at};
 use adf_block::Image;
 use adf_block::beside::KIND_BYTE;
 use adf_block::layout::{FEWEST_BLOCKS, FIRST_POINTER};
@@ -32,7 +34,7 @@ struct Piece {
     /// The number of data blocks before them.
     position: u64,
     /// The data block after them, unless the file ends there.
-    behind: Option<u32>,
+    next: Option<u32>,
 }
 
 /// The data blocks in the pointers of a block, as they were checked last.
@@ -54,10 +56,10 @@ pub(crate) struct Known {
 
 impl Known {
     /// Keeps what is known of the chain from a block on, if it ends outside the image.
-    fn keep_tail(&mut self, is_open: bool, header: u32, reach: Reach, position: u64)
+    fn keep_tail(&mut self, is_open: bool, header: u32, summary: DataSummary, position: u64)
         requires { header < length self.old.tails.items }
         ensures seen { self.new.seen.items ≡ self.old.seen.items }
-        ensures kept { is_open ≡ true → (is_settled : Bool) × (is_settled ≡ is_settled_at (slice_index_or self.old.tails.items header None) position) × (self.new.tails.items ≡ slice_set self.old.tails.items header (Some (record { reach = reach; position = position; is_settled = is_settled }))) }
+        ensures kept { is_open ≡ true → (is_settled : Bool) × (is_settled ≡ is_settled_at (slice_index_or self.old.tails.items header None) position) × (self.new.tails.items ≡ slice_set self.old.tails.items header (Some (record { summary = summary; position = position; is_settled = is_settled }))) }
         ensures same { is_open ≡ false → self.new.tails.items ≡ self.old.tails.items }
     {
         if !is_open {
@@ -65,27 +67,27 @@ impl Known {
         }
         let is_settled = is_settled_at(self.tails[header as usize], position);
         self.tails[header as usize] = Some(Tail {
-            reach,
+            summary,
             position,
             is_settled,
         });
     }
 }
 
-/// Checks the data blocks of a file at their places, from the last one that is not known to the first. The result is what its
-/// header and extension blocks lead to.
+/// Checks the data blocks of a file at their places, from the last one that is not known to the first. The result sums up
+/// all of them.
 pub(crate) fn look_along(
     image: &Image,
     file: u32,
-    front: &Front,
+    headers: &HeaderList,
     table: &HeaderTable,
     known: &mut Known,
     notes: &mut Notes,
-) -> Reach
+) -> DataSummary
     requires noted { AreNoted image.now notes.old.cells.items }
     requires file { IsFile image.now file }
-    requires inside { All (InImage image.now) front.now.headers.list.items }
-    requires front { IsFront image.now notes.old.cells.items file front.now.headers.list.items front.now }
+    requires inside { All (InImage image.now) headers.now.listed.list.items }
+    requires list { IsHeaderList image.now notes.old.cells.items file headers.now.listed.list.items headers.now }
     requires table { AreTabled image.now table.now.nexts.items table.now.counts.items table.now.firsts.items }
     requires held { IsOfs image.now → AreHeld image.now table.now.held.items }
     requires seen { AreAllSeen image.now notes.old.cells.items known.old.seen.items }
@@ -94,35 +96,35 @@ pub(crate) fn look_along(
     ensures stays { AreStillNoted notes.old.cells.items notes.new.cells.items }
     ensures seen { AreAllSeen image.now notes.new.cells.items known.new.seen.items }
     ensures tails { AreTails image.now notes.new.cells.items known.new.tails.items }
-    ensures reach { (blocks : List ℕ) → AreDataBlocks image.now file blocks → LeadsTo image.now blocks result }
+    ensures summary { (blocks : List ℕ) → AreDataBlocks image.now file blocks → IsSummary image.now blocks result }
     ensures places { IsOfs image.now → (blocks : List ℕ) → AreDataBlocks image.now file blocks → ArePlacesNoted image.now notes.new.cells.items blocks 0 }
 {
     prove!(image.blocks() >= FEWEST_BLOCKS);
     let _file = file;
-    let mut position = front.count;
-    let mut reach = front.behind;
-    for passed in 0..front.headers.list.len() {
-        let header = front.headers.list[front.headers.list.len() - 1 - passed];
+    let mut position = headers.count;
+    let mut summary = headers.rest;
+    for passed in 0..headers.listed.list.len() {
+        let header = headers.listed.list[headers.listed.list.len() - 1 - passed];
         let count = table.counts[header as usize];
         position -= u64::from(count);
         let piece = Piece {
             header,
             count,
             position,
-            behind: reach.first,
+            next: summary.first,
         };
         let first = look_at_piece(image, piece, &table.firsts, &mut known.seen, notes);
-        reach = Reach {
-            count: reach.count + u64::from(count),
-            held: held_with(&table.held, header, reach.held),
+        summary = DataSummary {
+            count: summary.count + u64::from(count),
+            held: held_with(&table.held, header, summary.held),
             first,
         };
-        known.keep_tail(front.is_open, header, reach, position);
+        known.keep_tail(headers.is_open, header, summary, position);
     }
-    reach
+    summary
 }
 
-/// In OFS the number of bytes that the data blocks in the pointers of a block hold together with others that hold so many.
+/// In OFS the number of bytes that the data blocks in the pointers of a block hold, together with others.
 fn held_with(held: &[Option<u64>], header: u32, others: Option<u64>) -> Option<u64>
     ensures { (image blocks : List ℕ) → header < block_count image → AreHeld image held.now → IsHeld image blocks others → IsHeld image (pointers_of image header ++ blocks) result }
 {
@@ -138,8 +140,8 @@ fn held_with(held: &[Option<u64>], header: u32, others: Option<u64>) -> Option<u
     Some(own.saturating_add(more))
 }
 
-/// Checks the data blocks of a piece of an OFS file, except those of which all is known. The result is the first one, or if there
-/// is none the data block behind it. Those of FFS files have no fields.
+/// Checks the data blocks of a piece of an OFS file, but not those of which all is known. The result is the first one, or
+/// the data block after the piece if it has none. The data blocks of FFS files have no fields.
 fn look_at_piece(
     image: &Image,
     piece: Piece,
@@ -162,7 +164,7 @@ fn look_at_piece(
         return None;
     }
     if piece.count == 0 {
-        return piece.behind;
+        return piece.next;
     }
     let first = Some(firsts[piece.header as usize]);
     let before = seen[piece.header as usize];
@@ -174,14 +176,14 @@ fn look_at_piece(
         });
         return first;
     }
-    if has_behind(before, piece.behind) {
+    if has_next(before, piece.next) {
         return first;
     }
     look_at_one(image, piece, piece.count - 1, notes);
     first
 }
 
-/// Whether all but the last of the data blocks of a piece at this position need no look.
+/// Whether all data blocks of a piece but the last one need no check at this position.
 fn is_known(seen: Option<Seen>, position: u64) -> bool
     ensures { result ≡ is_known seen position }
 {
@@ -191,12 +193,12 @@ fn is_known(seen: Option<Seen>, position: u64) -> bool
     }
 }
 
-/// Whether the data blocks were checked last with this one behind them.
-fn has_behind(seen: Option<Seen>, behind: Option<u32>) -> bool
-    ensures { IsTrue result → HasBehind seen behind }
+/// Whether the data blocks were checked last with this one after them.
+fn has_next(seen: Option<Seen>, next: Option<u32>) -> bool
+    ensures { IsTrue result → HasNext seen next }
 {
     match seen {
-        Some(seen) => seen.piece.behind == behind,
+        Some(seen) => seen.piece.next == next,
         None => false,
     }
 }
@@ -233,7 +235,7 @@ fn look_at_one(image: &Image, piece: Piece, i: u32, notes: &mut Notes)
     look_at_place(image, place, notes);
 }
 
-/// The data block behind one of a piece.
+/// The data block after number `i` of a piece.
 fn next_of(image: &Image, piece: Piece, i: u32) -> Option<u32>
     requires piece { IsPiece image.now piece }
     requires within { i < piece.count }
@@ -241,7 +243,7 @@ fn next_of(image: &Image, piece: Piece, i: u32) -> Option<u32>
 {
     let next = i + 1;
     if next == piece.count {
-        return piece.behind;
+        return piece.next;
     }
     Some(image.long(piece.header, FIRST_POINTER - next))
 }

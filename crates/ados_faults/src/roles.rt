@@ -1,7 +1,6 @@
 //! The roles in which a walk takes each block: of each number that a role may have, at most two.
 ghost use Rattle.std.specs.Prelude.{◌≡◌, ◌<◌, ◌*◌, IfOk, List, MatchOption, false, length, replicate, true};
 ghost use Rattle.adf_block.specs.Image.{block_count};
-ghost use Rattle.ados_model.specs.declared.role.Role.TheVariants.{Entry};
 ghost use Rattle.ados_faults.specs.declared.roles.Taken.TheVariants.{Nothing};
 ghost use Rattle.ados_faults.specs.declared.walk.Step.{Step};
 ghost use Rattle.ados_faults.specs.steps.Roles.{AreBacked, AreCoveredBy, HasNumber, IsCovered, IsListed, lacks, part_rank, step_of, with_number};

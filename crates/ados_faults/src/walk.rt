@@ -4,7 +4,6 @@ ghost use Rattle.adf_block.specs.declared.layout.TheConstants.{BLOCK_LONGS};
 ghost use Rattle.adf_block.specs.Image.{long};
 ghost use Rattle.ados_model.specs.Faults.{InImage, Reached};
 ghost use Rattle.ados_faults.specs.Listed.{AreClosed, IsNamedAs};
-ghost use Rattle.ados_model.specs.declared.fault.FaultKind.TheVariants.{BadPointer};
 ghost use Rattle.ados_faults.specs.steps.Roles.{AreCovered, AreCoveredBy};
 ghost use Rattle.ados_faults.specs.steps.Walked.{AreKept, AreOutsideNoted, AreTwiceNoted, IsMarkedBy, IsPassed, IsStep, IsVisited, IsWalked};
 

@@ -46,7 +46,7 @@ HasTypeAs image kind block Root = kind ≡ DIRECTORY_TYPE
 HasTypeAs image kind block (Entry dir s) = secondary_type image block ≡ kind
 HasTypeAs image kind block _ = ⊥
 
--- so it is of a reached block
+-- the block is reached in a role in which it has the secondary type
 abbrev pub IsOfType : List ℕ → ℕ → ℕ → Type 0
 IsOfType image kind block = ((block ≡ root_of image) × (kind ≡ DIRECTORY_TYPE)) ⊎ ((dir : ℕ) × (s : ℕ) × Reached image block (Entry dir s) × (secondary_type image block ≡ kind))
 

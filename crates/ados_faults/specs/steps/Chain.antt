@@ -29,12 +29,12 @@ pub record IsPiece (image : List ℕ) (piece : Piece) : Type 0 where
   pub of_file : AreDataBlocks image file blocks
   pub within : piece.position + piece.count ≤ length blocks
   pub there : (i : ℕ) → i < piece.count → slice_index blocks (piece.position + i) ≡ slice_index (pointers_of image piece.header) i
-  pub behind : slice_get blocks (piece.position + piece.count) ≡ piece.behind
+  pub next : slice_get blocks (piece.position + piece.count) ≡ piece.next
 
--- the data block behind number i of a piece
+-- the data block after number i of a piece
 abbrev pub next_in : List ℕ → Piece → ℕ → Option ℕ
-next_in image piece i = if nat_lt (i + 1) piece.count then Some (slice_index (pointers_of image piece.header) (i + 1)) else piece.behind
+next_in image piece i = if nat_lt (i + 1) piece.count then Some (slice_index (pointers_of image piece.header) (i + 1)) else piece.next
 
--- the first data block of a piece, or the one behind it if it has none
+-- the first data block of a piece, or the one after it if it has none
 abbrev pub first_in : List ℕ → Piece → Option ℕ
-first_in image piece = if nat_lt 0 piece.count then Some (slice_index (pointers_of image piece.header) 0) else piece.behind
+first_in image piece = if nat_lt 0 piece.count then Some (slice_index (pointers_of image piece.header) 0) else piece.next

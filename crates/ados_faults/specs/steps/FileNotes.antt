@@ -16,26 +16,25 @@ use Rattle.ados_faults.specs.steps.Noted.{IsNoted, cell_of}
 abbrev pub IsRuleNoted : List ℕ → List Bool → Place → DataRule → Type 0
 IsRuleNoted image cells place rule = BreaksRule image place rule → IsNoted cells (cell_of (kind_of_data rule) place.block)
 
--- each rule that the data block breaks at this position of a file is noted; behind it stands the next one, if there is
--- one
+-- each rule that the data block breaks at this position of a file is noted. After it comes the next one, if there is one
 pub record IsPlaceNoted (image : List ℕ) (cells : List Bool) (block position : ℕ) (next : Option ℕ) : Type 0 where
   pub each : (rule : DataRule) → IsRuleNoted image cells (record { block = block; position = position; next = next }) rule
 
--- so it is for each of these data blocks from a position on, as far as they are inside the image
+-- each rule that these data blocks break from a position on is noted, as far as they are inside the image
 pub record ArePlacesNoted (image : List ℕ) (cells : List Bool) (blocks : List ℕ) (from : ℕ) : Type 0 where
   pub placed : (i : ℕ) → from ≤ i → i < length blocks → InImage image (slice_index blocks i) → IsPlaceNoted image cells (slice_index blocks i) i (slice_get blocks (i + 1))
 
--- so it is for one data block of a piece
+-- each rule that data block number i of a piece breaks is noted, if it is inside the image
 abbrev pub IsOneNoted : List ℕ → List Bool → Piece → ℕ → Type 0
 IsOneNoted image cells piece i =
     InImage image (slice_index (pointers_of image piece.header) i) → IsPlaceNoted image cells (slice_index (pointers_of image piece.header) i) (piece.position + i) (next_in image piece i)
 
--- so it is for each data block of a piece
+-- each rule that the data blocks of a piece break is noted
 pub record IsPieceNoted (image : List ℕ) (cells : List Bool) (piece : Piece) : Type 0 where
   pub placed : (i : ℕ) → i < piece.count → IsOneNoted image cells piece i
 
--- what the data blocks in the pointers of a block show at one place is noted, and if they were checked at two positions, that
--- each has a wrong sequence number
+-- what the data blocks in the pointers of a block show at one place is noted. If they were checked at two positions, a
+-- wrong sequence number of each is noted too
 pub record IsHeaderSeen (image : List ℕ) (cells : List Bool) (header : ℕ) (seen : Seen) : Type 0 where
   pub header_is : seen.piece.header ≡ header
   pub count : seen.piece.count ≡ length (pointers_of image header)
@@ -43,19 +42,19 @@ pub record IsHeaderSeen (image : List ℕ) (cells : List Bool) (header : ℕ) (s
   pub settled : seen.is_settled ≡ true → (i : ℕ) → i < length (pointers_of image header) → InImage image (slice_index (pointers_of image header) i)
       → IsNoted cells (cell_of BadSequence (slice_index (pointers_of image header) i))
 
--- so it is for each block that was seen
+-- what is kept of each block that was seen is as `IsHeaderSeen` says
 pub record AreAllSeen (image : List ℕ) (cells : List Bool) (seen : List (Option Seen)) : Type 0 where
   pub size : length seen ≡ block_count image
   pub each : (header : ℕ) (s : Seen) → slice_get seen header ≡ Some (Some s) → IsHeaderSeen image cells header s
 
--- all but the last need no look at this position
+-- the data blocks of the piece, but for the last one, need no check at this position
 abbrev pub is_known : Option Seen → ℕ → Bool
 is_known None position = false
 is_known (Some seen) position = seen.is_settled || (seen.piece.position == position)
 
--- they were checked last with this data block behind them
-abbrev pub HasBehind : Option Seen → Option ℕ → Type 0
-HasBehind seen behind = (s : Seen) × (seen ≡ Some s) × (s.piece.behind ≡ behind)
+-- the data blocks of the piece were checked last with this data block after them
+abbrev pub HasNext : Option Seen → Option ℕ → Type 0
+HasNext seen next = (s : Seen) × (seen ≡ Some s) × (s.piece.next ≡ next)
 
 -- the blocks are inside the image, and hold another number of bytes than the size of the file
 abbrev pub HoldOtherSize : List ℕ → ℕ → List ℕ → Type 0
@@ -65,7 +64,7 @@ HoldOtherSize image file blocks = All (InImage image) blocks × (sum_by (held_co
 abbrev pub IsHeld : List ℕ → List ℕ → Option ℕ → Type 0
 IsHeld image blocks held = MatchOption held (¬ All (InImage image) blocks) (λ sum. All (InImage image) blocks × (sum ≡ min (sum_by (held_count image) blocks) (2 ^ 64 - 1)))
 
--- so it is for the data blocks in the pointers of each block
+-- the list has for each block the number of bytes that the data blocks in its pointers hold together
 pub record AreHeld (image : List ℕ) (held : List (Option ℕ)) : Type 0 where
   pub size : length held ≡ block_count image
   pub each : (header : ℕ) (sum : Option ℕ) → slice_get held header ≡ Some sum → IsHeld image (pointers_of image header) sum

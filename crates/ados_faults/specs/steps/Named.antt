@@ -25,11 +25,11 @@ pub record AreKnown (image : List ℕ) (known : BTreeMap (List ℕ) ℕ) : Type 
 pub record AreStillKnown (known later : BTreeMap (List ℕ) ℕ) : Type 0 where
   pub stay : (name : List ℕ) (block : ℕ) → get name_cmp known name ≡ Some block → get name_cmp later name ≡ Some block
 
--- the block that the name of a block leads to, if that is short
+-- the map leads from the name of the block to this one, if the name is short; else there is none
 abbrev pub IsFirstName : List ℕ → BTreeMap (List ℕ) ℕ → ℕ → Option ℕ → Type 0
 IsFirstName image known block first = MatchOption first (¬ HasShortName image block) (λ name. HasShortName image block × (get name_cmp known (upper_name image block) ≡ Some name))
 
--- for each block what its name leads to in one map
+-- the list has for each block what its name leads to in one map
 pub record AreFirstNames (image : List ℕ) (first : List (Option ℕ)) : Type 0 where
   pub known : BTreeMap (List ℕ) ℕ
   pub are_known : AreKnown image known
@@ -67,7 +67,7 @@ pub record IsNameMet (cells : List Bool) (met : List (Option Named)) (dir block 
   pub here : block ≢ other → IsNoted cells (cell_of DuplicateName block)
   pub there : block ≢ other → IsNoted cells (cell_of DuplicateName other)
 
--- so it is of the first blocks in a list
+-- each of the first n blocks in a list was met with its name in the directory, if that is short
 pub record AreFirstMet (cells : List Bool) (met : List (Option Named)) (first : List (Option ℕ)) (dir : ℕ) (blocks : List ℕ) (n : ℕ) : Type 0 where
   pub each : (k block name : ℕ) → k < n → slice_get blocks k ≡ Some block → slice_get first block ≡ Some (Some name) → IsNameMet cells met dir block name
 
@@ -82,6 +82,6 @@ pub record AreListedNoted (image : List ℕ) (cells : List Bool) (blocks : List 
   pub noted : (block other : ℕ) → Contains blocks block → Contains blocks other → HasShortName image block → HasShortName image other
       → upper_name image block ≡ upper_name image other → block ≢ other → IsNoted cells (cell_of DuplicateName block)
 
--- so it is of each directory
+-- each entry of each directory with the name of another one there is noted
 pub record AreDuplicatesNoted (image : List ℕ) (cells : List Bool) : Type 0 where
   pub noted : (dir : ℕ) → AreNamesNoted image cells dir

@@ -22,7 +22,7 @@ pub record AreStillNoted (cells later : List Bool) : Type 0 where
 abbrev pub HasNote : List Bool → Type 0
 HasNote cells = (cell : ℕ) × IsNoted cells cell
 
--- there is a cell for each kind and block, and the image shows each fault that was noted
+-- each kind and block has a cell, and the image shows each fault that was noted
 pub record AreNoted (image : List ℕ) (cells : List Bool) : Type 0 where
   pub size : length cells ≡ 17 * block_count image
   pub shown : (kind : FaultKind) (block : ℕ) → IsNoted cells (cell_of kind block) → Shows image kind block
@@ -35,7 +35,7 @@ cell_at fault = cell_of fault.kind fault.block
 abbrev pub ListsNoted : List Bool → List VolumeFault → Type 0
 ListsNoted cells faults = (kind : FaultKind) (block : ℕ) → IsNoted cells (cell_of kind block) → Contains faults (fault_of kind block)
 
--- each noted fault is in the list, or stands behind all of the list
+-- each noted fault is in the list, or stands after all of the list
 abbrev pub ListsFirst : List Bool → List VolumeFault → Type 0
 ListsFirst cells faults =
     (kind : FaultKind) (block : ℕ) → IsNoted cells (cell_of kind block) → Contains faults (fault_of kind block) ⊎ All (λ fault. StandsBefore fault (fault_of kind block)) faults
@@ -48,7 +48,7 @@ pub record IsFull (image : List ℕ) (cells : List Bool) (most : ℕ) (faults : 
   pub room : most < length cells
   pub more : ShowsMoreThan image most
 
--- the faults of the cells below a bound
+-- the list has the noted faults of the cells below a bound
 pub record AreListed (image : List ℕ) (cells : List Bool) (most below : ℕ) (faults : List VolumeFault) : Type 0 where
   pub lists : ListsFaults image most faults
   pub count : length faults ≤ below

@@ -87,6 +87,6 @@ IsBacked steps block part Nothing = Unit {0}
 IsBacked steps block part (One n) = HasNumber steps block part n
 IsBacked steps block part Two = HasTwo steps block part
 
--- so it is of each block and part
+-- the steps have all numbers that were taken, of each block and part
 pub record AreBacked (cells : List Taken) (steps : List Step) : Type 0 where
   pub backed : (block : ℕ) (part : Part) → IsBacked steps block part (taken_at cells block part)

@@ -14,6 +14,10 @@ returns c = λ old a marks. record {
     accepts = subst (λ (b : Bool). Accepts old b c.args.volume.now.image) (sym c.was_validated.ensures) a;
     kind = subst (λ (image : List ℕ). HasKind image c.boot_kind.result) c.image-image.ensures.same c.boot_kind.ensures;
     blocks = c.blocks-2.ensures.count ∙ ap block_count c.image-image.ensures.same;
+    asked = elim c.if-detail.branch [
+      | then-detail+in_ok-counts_of w ↦ rw w.contents-is (sym w.if-detail.true)
+      | else-detail w ↦ rw w.contents-is (sym w.if-detail.false)
+    ];
     contents = elim c.if-detail.branch [
       | then-detail+in_ok-counts_of w ↦
           rw w.contents-is (λ t s.
@@ -35,4 +39,5 @@ returns c = λ old a marks. record {
     ];
   };
   each = λ wanted. tt;
+  one = λ first. tt;
 }

@@ -18,4 +18,5 @@ returns c =
         bitmap = c.has_only_bitmap_faults.ensures image c.requires.found;
       };
       each = λ all. subst (λ (shown : List VolumeFault). AreAllFaults image 1000 c.args.more shown) (sym is.faults) (c.requires.each all);
+      one = λ first. (omega (arith, (c.requires.one first).0, many faults c.args.faults.now is.faults), (c.requires.one first).1);
     }

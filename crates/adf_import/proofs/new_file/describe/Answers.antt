@@ -1,5 +1,5 @@
-use Rattle.std.proofs.Common.{refl}
-use Rattle.adf_import.proofs.Common.{Node, described, none, one_more}
+use Rattle.std.proofs.Common.{[], ◌∷◌, refl}
+use Rattle.adf_import.proofs.Common.{Node, described, none, one_more, with_comment, with_date, with_protection}
 use Rattle.adf_import.proofs.Keeping.{keeps_described, keeps_keys, keys_edited}
 use Rattle.adf_import.proofs.new_file.describe.Goals as goal
 
@@ -23,10 +23,14 @@ returns-clause-keys c =
     keeps_keys c.args.volume.now.image c.set_date.new.self.image (described c.args.moment c.args.key c.args.file.now) c.image.ensures.stands
     (λ t s. c.set_date.ensures.stands _ (c.set_comment.ensures.stands _ (c.set_protect.ensures.stands t s))) (λ t s. keeps_described t c.args.moment c.args.key c.args.file.now)
 
-pub returns-clause-keeps : goal.returns-clause-keeps
-returns-clause-keeps c =
+pub returns-clause-goes : goal.returns-clause-goes
+returns-clause-goes c =
+    let protect = with_protection c.args.moment c.args.key c.args.file.now.protection.0 in
+    let comment = with_comment c.args.moment c.args.key c.args.file.now.comment in
     let t = c.image.ensures.stands.0 in
     let bits = c.set_protect.ensures.stands t c.image.ensures.stands.1 in
     let text = c.set_comment.ensures.stands _ bits in
     let date = c.set_date.ensures.stands _ text in
-    one_more (one_more (one_more none c.set_protect.ensures.keeps (_, bits)) c.set_comment.ensures.keeps (_, text)) c.set_date.ensures.keeps (_, date)
+    one_more (protect ∷ comment ∷ []) (with_date c.args.moment c.args.key c.args.file.now.date)
+    (one_more (protect ∷ []) comment (one_more [] protect none c.set_protect.ensures.stands c.set_protect.ensures.keeps (_, bits)) c.set_comment.ensures.stands c.set_comment.ensures.keeps (_, text))
+    c.set_date.ensures.stands c.set_date.ensures.keeps (_, date)

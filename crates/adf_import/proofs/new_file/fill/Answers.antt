@@ -1,7 +1,7 @@
-use Rattle.std.proofs.Common.{length, subst}
-use Rattle.adf_import.proofs.Common.{Stands, written, cut_back, none, one_more}
+use Rattle.std.proofs.Common.{[], ◌∷◌, length, subst}
+use Rattle.adf_import.proofs.Common.{Stands, written, cut_back, describing, none, one_more}
 use Rattle.adf_import.proofs.Filling.{IsEntry, IsFileKey, after_change, content_held, filled_is, held_entry, holds_its_own, holds_put, holds_written}
-use Rattle.adf_import.proofs.Turns.{in_turn_both}
+use Rattle.adf_import.proofs.Turns.{goes_both}
 use Rattle.adf_import.proofs.new_file.fill.Goals as goal
 
 pub cut_behind-requires : goal.cut_behind-requires
@@ -30,10 +30,13 @@ returns-clause-stands c = λ t s.
     subst (Stands c.describe.new.volume.image) (filled_is t c.args.moment c.args.key c.args.file.now old.0 old.1)
     (c.describe.ensures.stands _ (c.cut_behind.ensures.stands _ ((c.in-Ok.ensures.done t s).1)))
 
-pub returns-clause-keeps : goal.returns-clause-keeps
-returns-clause-keeps c =
+pub returns-clause-goes : goal.returns-clause-goes
+returns-clause-goes c =
     let t = c.image.ensures.stands.0 in
     let wrote = (c.in-Ok.ensures.done t c.image.ensures.stands.1).1 in
     let cut = c.cut_behind.ensures.stands _ wrote in
-    in_turn_both c.args.volume.now.image c.cut_behind.new.volume.image c.describe.new.volume.image
-    (one_more (one_more none c.write.ensures.keeps (_, wrote)) c.cut_behind.ensures.keeps (_, cut)) c.describe.ensures.keeps
+    let write = written c.args.moment c.args.key 0 c.args.file.now.bytes.now in
+    let shorten = cut_back c.args.moment c.args.key (length c.args.file.now.bytes.now) in
+    goes_both c.args.volume.now.image c.cut_behind.new.volume.image c.describe.new.volume.image (write ∷ shorten ∷ []) (describing c.args.moment c.args.key c.args.file.now)
+    (one_more (write ∷ []) shorten (one_more [] write none (λ t s. (c.in-Ok.ensures.done t s).1) c.write.ensures.keeps (_, wrote)) c.cut_behind.ensures.stands c.cut_behind.ensures.keeps (_, cut))
+    c.describe.ensures.goes

@@ -1,10 +1,10 @@
-use Rattle.std.proofs.Common.{◌≡◌, ◌+◌, ◌≤◌, ℕ, Option, [], length, is_some, rules, Some, None, false, sym, ap, ◌∙◌, subst, le-ltb}
-use Rattle.adf_import.proofs.Common.{true≢false, HasKey, HasTree, block_cost, free as free_of, Tree, IsName, DosError, ObjectExists, File, Stands, made, child_of, Shown, none_free_lacks, can_make_in, none_there, passed, KeepsInTurn, KeepsKeys, more_blocks, or_no_room}
+use Rattle.std.proofs.Common.{◌≡◌, ◌+◌, ◌≤◌, ℕ, Option, List, [], ◌∷◌, length, is_some, rules, Some, None, false, sym, ap, ◌∙◌, subst, le-ltb}
+use Rattle.adf_import.proofs.Common.{true≢false, HasKey, HasTree, block_cost, free as free_of, Tree, IsName, DosError, ObjectExists, File, Stands, made, child_of, Shown, none_free_lacks, can_make_in, none_there, passed, GoesThrough, KeepsKeys, filling, more_blocks, none, one_more, or_no_room}
 use Rattle.ados_change.proofs.Making.{unused}
 use Rattle.adf_import.proofs.Filling.{IsFileKey, after_change}
-use Rattle.adf_import.proofs.Putting.{add_keeps, child_key, put_new, put_new_tree, put_over, put_over_tree, replace_keeps}
+use Rattle.adf_import.proofs.Putting.{add_keeps, child_key, put_new, put_new_steps, put_new_tree, put_over, put_over_steps, put_over_tree, replace_keeps}
 use Rattle.adf_import.proofs.Rooms.{as_told, has_room, new_is_empty, no_room, room_in_new, some_room}
-use Rattle.adf_import.proofs.Turns.{in_turn_as_it_was, in_turn_both, in_turn_one, kept_looked}
+use Rattle.adf_import.proofs.Turns.{goes_both, kept_looked}
 use Rattle.adf_import.proofs.new_file.put_file.Goals as goal
 
 -- ---- in place of the file with the name
@@ -35,14 +35,11 @@ returns-in-Ok-clause-unused c = λ t s none.
     let is : child_of t c.args.dir c.args.name ≡ Some c.in-Some.key = sym (c.child.ensures.child t s) ∙ c.in-Some.is in
     absurd (cc (is, none))
 
-pub returns-in-Ok-clause-keeps : goal.returns-in-Ok-clause-keeps
-returns-in-Ok-clause-keeps c = subst (λ (v : Shown). KeepsInTurn v.image c.replace_file.new.volume.image) c.child.ensures.same c.replace_file.ensures.keeps
-
-pub returns-in-Err-clause-keeps : goal.returns-in-Err-clause-keeps
-returns-in-Err-clause-keeps c = subst (λ (v : Shown). KeepsInTurn v.image c.replace_file.new.volume.image) c.child.ensures.same c.replace_file.ensures.keeps
-
-pub returns-then-not-force-clause-keeps : goal.returns-then-not-force-clause-keeps
-returns-then-not-force-clause-keeps c = in_turn_as_it_was c.args.volume.now c.child.new.self c.child.ensures.same
+pub returns-in-Ok-clause-goes : goal.returns-in-Ok-clause-goes
+returns-in-Ok-clause-goes c = λ t s.
+    let is : child_of t c.args.dir c.args.name ≡ Some c.in-Some.key = sym (c.child.ensures.child t s) ∙ c.in-Some.is in
+    subst (λ (steps : List (Tree → Tree)). GoesThrough steps c.args.volume.now.image c.replace_file.new.volume.image) (sym (put_over_steps t c.args.dir c.args.name c.in-Some.key is c.args.moment c.args.file.now c.in-Some.key))
+    (subst (λ (v : Shown). GoesThrough (filling c.args.moment c.in-Some.key c.args.file.now) v.image c.replace_file.new.volume.image) c.child.ensures.same c.in-Ok.ensures.goes)
 
 -- ---- a new file
 
@@ -94,9 +91,6 @@ returns-in-Err-need_free-clause-put c = (
       ∙ no_room needed (free_of t) c.new_file_blocks-needed.result c.in-Err-need_free.refused (c.new_file_blocks-needed.ensures t there) few.0 few.1,
 )
 
-pub returns-in-Err-need_free-clause-keeps : goal.returns-in-Err-need_free-clause-keeps
-returns-in-Err-need_free-clause-keeps c = in_turn_as_it_was c.args.volume.now c.child.new.self c.child.ensures.same
-
 pub returns-clause-put : goal.returns-clause-put
 returns-clause-put c = λ t s.
     let size : ℕ = length c.args.file.now.bytes.now in
@@ -120,10 +114,13 @@ returns-clause-keys c =
     (λ t s. c.fill.ensures.stands _ (c.in-Ok-create.ensures.done.1 t (there t s)))
     (λ t s. unused c.child.new.self.image t (there t s) c.in-Ok-create.key c.in-Ok-create.ensures.done.0)
 
-pub returns-clause-keeps : goal.returns-clause-keeps
-returns-clause-keeps c =
-    let t = c.image.ensures.stands.0 in
-    let there = subst (λ (v : Shown). Stands v.image t) (sym c.child.ensures.same) c.image.ensures.stands.1 in
+pub returns-clause-goes : goal.returns-clause-goes
+returns-clause-goes c = λ t s.
+    let absent : child_of t c.args.dir c.args.name ≡ None = sym (c.child.ensures.child t s) ∙ c.in_default.is in
+    let stands : (u : Tree) → Stands c.args.volume.now.image u → Stands c.create.new.self.image (made c.args.moment c.args.dir c.in-Ok-create.key c.args.name (File []) u) =
+    λ u r. c.in-Ok-create.ensures.done.1 u (subst (λ (v : Shown). Stands v.image u) (sym c.child.ensures.same) r) in
     let made_keeps = kept_looked c.args.volume.now c.child.new.self c.create.new.self c.child.ensures.same c.create.ensures.keeps in
-    in_turn_both c.args.volume.now.image c.create.new.self.image c.fill.new.volume.image
-    (in_turn_one c.args.volume.now.image c.create.new.self.image made_keeps (_, c.in-Ok-create.ensures.done.1 t there)) c.fill.ensures.keeps
+    let make = made c.args.moment c.args.dir c.in-Ok-create.key c.args.name (File []) in
+    subst (λ (steps : List (Tree → Tree)). GoesThrough steps c.args.volume.now.image c.fill.new.volume.image) (sym (put_new_steps t c.args.dir c.args.name absent c.args.moment c.args.file.now c.in-Ok-create.key))
+    (goes_both c.args.volume.now.image c.create.new.self.image c.fill.new.volume.image (make ∷ []) (filling c.args.moment c.in-Ok-create.key c.args.file.now)
+    (one_more [] make none stands made_keeps (_, stands t s)) c.fill.ensures.goes)

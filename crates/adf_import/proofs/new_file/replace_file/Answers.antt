@@ -1,5 +1,5 @@
 use Rattle.std.proofs.Common.{◌≡◌, ℕ, Bool, Option, None, false, true, not, List, [], ◌∷◌, length, sym, ap, ◌∙◌}
-use Rattle.adf_import.proofs.Common.{◌&&◌, denies_delete, denies_write, DosError, DeleteProtected, ObjectWrongType, WriteProtected, free as free_of, Tree, is_file, protection_of, first_refusal, refuse, passed, NotPut, more_blocks, or_no_room, none}
+use Rattle.adf_import.proofs.Common.{◌&&◌, denies_delete, denies_write, DosError, DeleteProtected, ObjectWrongType, WriteProtected, free as free_of, Tree, is_file, protection_of, first_refusal, refuse, passed, NotPut, more_blocks, or_no_room}
 use Rattle.adf_import.proofs.Rooms.{has_room}
 use Rattle.adf_import.proofs.new_file.replace_file.Goals as goal
 
@@ -28,15 +28,3 @@ returns-clause-done c = λ t s.
           ∙ has_room (more_blocks t c.args.key size) (free_of t) c.more_blocks-needed.result (c.more_blocks-needed.ensures t s) (c.in_default.ensures t s),
       c.fill.ensures.stands t s,
     )
-
-pub returns-then-not-is_file-clause-keeps : goal.returns-then-not-is_file-clause-keeps
-returns-then-not-is_file-clause-keeps c = none
-
-pub returns-then-is_denied-clause-keeps : goal.returns-then-is_denied-clause-keeps
-returns-then-is_denied-clause-keeps c = none
-
-pub returns-then-is_write_denied-clause-keeps : goal.returns-then-is_write_denied-clause-keeps
-returns-then-is_write_denied-clause-keeps c = none
-
-pub returns-in-Err-clause-keeps : goal.returns-in-Err-clause-keeps
-returns-in-Err-clause-keeps c = none

@@ -1,11 +1,11 @@
 use Rattle.std.proofs.Common.{◌≡◌, ℕ, List, [], Some, refl, ◌∙◌, subst, arith}
-use Rattle.adf_import.proofs.Common.{common_steps, Tree, Proper, parent_of, Stands, HasEntryKey, some_in, none, one_more}
+use Rattle.adf_import.proofs.Common.{common_steps, Tree, Proper, parent_of, Stands, HasEntryKey, some_in}
 use Rattle.ados_volume.proofs.Refusing.{parent_there}
-use Rattle.adf_import.proofs.Pruning.{IsPruning, can_remove_next, can_remove_top, pruning_ends, pruning_goes_on, pruning_starts}
+use Rattle.adf_import.proofs.Pruning.{IsPruning, can_remove_next, can_remove_top, next_removed, none_removed, pruning_ends, pruning_goes_on, pruning_starts, top_removed}
 use Rattle.adf_import.proofs.prune.remove_all.Goals as goal
 
 pub loop-entry-init : goal.loop-entry-init
-loop-entry-init c = record { pruning = λ t s. pruning_starts t c.args.key c.args.below.items c.args.volume.now.image s; keeps = none; validated = refl }
+loop-entry-init c = record { pruning = λ t s. pruning_starts t c.args.key c.args.below.items c.args.volume.now.image s; removed = none_removed c.args.moment c.args.below.items c.args.volume.now.image; validated = refl }
 
 pub remove-requires : goal.remove-requires
 remove-requires c = λ u r.
@@ -23,7 +23,9 @@ loop-entry-preserved c =
           pruning_goes_on t c.args.moment c.args.key s.proper c.args.below.items (c.requires.below t s) c.loop-entry.volume.image
           c.loop-entry.below.items c.pop.new.self.items c.in-Some.entry c.in-Some.ensures.items (c.loop-entry.invariant.pruning t s) c.remove.new.self.image
           c.remove.ensures.stands;
-      keeps = one_more c.loop-entry.invariant.keeps c.remove.ensures.keeps (_, c.remove.ensures.stands now.now now.stands);
+      removed =
+          next_removed c.args.moment c.in-Some.entry c.args.volume.now.image c.loop-entry.volume.image c.remove.new.self.image c.remove.ensures.stands c.remove.ensures.keeps
+          (_, c.remove.ensures.stands now.now now.stands) c.args.below.items c.loop-entry.below.items c.pop.new.self.items c.in-Some.ensures.items c.loop-entry.invariant.removed;
       validated = c.remove.ensures.validated ∙ c.loop-entry.invariant.validated;
     }
 
@@ -51,5 +53,8 @@ returns-clause-stands c = λ t s.
     (subst (IsPruning t c.args.key c.args.below.items c.loop-entry.volume.image) none (c.loop-entry.invariant.pruning t s))
     c.remove-2.new.self.image c.remove-2.ensures.stands
 
-pub returns-clause-keeps : goal.returns-clause-keeps
-returns-clause-keeps c = one_more c.loop-entry.invariant.keeps c.remove-2.ensures.keeps (_, returns-clause-stands c c.image.ensures.stands.0 c.image.ensures.stands.1)
+pub returns-clause-goes : goal.returns-clause-goes
+returns-clause-goes c =
+    let left : c.loop-entry.below.items ≡ [] = grind (arith, common_steps) in
+    top_removed c.args.moment c.args.key c.args.volume.now.image c.loop-entry.volume.image c.remove-2.new.self.image c.remove-2.ensures.stands c.remove-2.ensures.keeps
+    (_, returns-clause-stands c c.image.ensures.stands.0 c.image.ensures.stands.1) c.args.below.items c.loop-entry.below.items left c.loop-entry.invariant.removed c.requires.below

@@ -11,7 +11,7 @@ write_list-requires g c = subst (λ (v : Shown). HasKey v.image c.in_ok-key.key)
 
 pub returns-in_err-key : goal.returns-in_err-key
 returns-in_err-key g c =
-    tells_unlisted (IsListOf c.args.job.now) (BeginsListOf c.args.job.now) c.args.image _ c.in_err-key.field-0.0 _
+    tells_unlisted (IsListOf c.args.styled c.args.job.now) (BeginsListOf c.args.styled c.args.job.now) c.args.image _ c.in_err-key.field-0.0 _
     c.in_err-key.ensures.fault c.from_residual-in_err-key.ensures.1
 
 pub returns-in-Ok : goal.returns-in-Ok
@@ -27,4 +27,4 @@ returns g c =
     let front = list_front c.args.image _ _ c.in_ok-volume.ensures path c.shown_form-form.result c.args.job.now.order c.in_ok-key.key _ _ c.in_ok-key.ensures.listed
     (λ t s. c.in-Err.ensures.front t (subst (λ (v : Shown). Stands v.image t) (sym c.in_ok-key.ensures.same) s)) in
     let asked = front_asked c.args.image c.args.job.now c.args.styled c.shown_form-form.result c.shown_form-form.ensures _ _ front in
-    leaves_front (BeginsListOf c.args.job.now c.args.image) c.args.image _ _ c.from.result asked c.from.ensures
+    leaves_front (BeginsListOf c.args.styled c.args.job.now c.args.image) c.args.image _ _ c.from.result asked c.from.ensures

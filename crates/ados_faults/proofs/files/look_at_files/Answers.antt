@@ -10,7 +10,7 @@ pub loop-file-init : goal.loop-file-init
 loop-file-init c = record {
   noted = c.requires.noted;
   stays = record { stay = λ cell e. e };
-  met = c.in_ok-front.ensures;
+  met = c.in_ok-headers.ensures;
   seen = none_seen c.args.image.now c.args.notes.now.cells.items _ (search rules);
   tails = none_known c.args.image.now c.args.notes.now.cells.items _ (search rules);
   each = λ k file l e. absurd (omega (arith, l));

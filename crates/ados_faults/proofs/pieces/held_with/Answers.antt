@@ -1,21 +1,24 @@
-use Rattle.ados_faults.proofs.Common.{◌+◌, ℕ, List, ◌++◌, Some, None, get_or, length, sym, subst, arith, All, get_or-append-add, get_or_append_left, length-append, InImage, pointers_of, IsHeld}
+use Rattle.ados_faults.proofs.Common.{refl, take_at, ℕ, List, ◌++◌, Some, None, get_or, length, sym, subst, All, InImage, pointers_of, IsHeld}
 use Rattle.ados_faults.proofs.ByHeaders.{held_append, held_at, none_held}
+use Rattle.std.proofs.lemmas.List.{drop_at}
+use Rattle.std.proofs.lemmas.List.Elements.{All-drop, All-take}
 use Rattle.ados_faults.proofs.pieces.held_with.Goals as goal
 
-all_left : (P : ℕ → Type 0) (xs ys : List ℕ) → All P (xs ++ ys) → All P xs
-all_left P xs ys all k d l = subst P (get_or_append_left xs ys d k l) (all k d (omega (arith, l, length-append xs ys)))
+module _ (image : List ℕ) (xs ys : List ℕ) (all : All (InImage image) (xs ++ ys)) where
+  own_inside : All (InImage image) xs
+  own_inside = subst (All (InImage image)) (take_at xs ys (length xs) refl) (All-take (InImage image) (length xs) (xs ++ ys) all)
 
-all_right : (P : ℕ → Type 0) (xs ys : List ℕ) → All P (xs ++ ys) → All P ys
-all_right P xs ys all k d l = subst P (get_or-append-add xs ys k d) (all (length xs + k) d (omega (arith, l, length-append xs ys)))
+  others_inside : All (InImage image) ys
+  others_inside = subst (All (InImage image)) (drop_at xs ys (length xs) refl) (All-drop (InImage image) (length xs) (xs ++ ys) all)
 
 pub returns-in_default : goal.returns-in_default
 returns-in_default c = λ image blocks inside held others all.
     none_held image (pointers_of image c.args.header) (get_or c.args.held.now c.args.header None) (held_at image c.args.held.now c.args.header held inside) c.in_default.not-Some
-    (all_left (InImage image) (pointers_of image c.args.header) blocks all)
+    (own_inside image (pointers_of image c.args.header) blocks all)
 
 pub returns-in_default-others : goal.returns-in_default-others
 returns-in_default-others c = λ image blocks inside held others all.
-    none_held image blocks c.args.others others c.in_default-others.not-Some (all_right (InImage image) (pointers_of image c.args.header) blocks all)
+    none_held image blocks c.args.others others c.in_default-others.not-Some (others_inside image (pointers_of image c.args.header) blocks all)
 
 pub returns : goal.returns
 returns c = λ image blocks inside held others.

@@ -7,5 +7,5 @@ invariant-loop-passed l = record {
   stays : AreStillNoted l.fn.notes.cells.items l.notes.cells.items;
   seen : AreAllSeen l.image l.notes.cells.items l.known.seen.items;
   tails : AreTails l.image l.notes.cells.items l.known.tails.items;
-  along : IsAlongFile l.image l.notes.cells.items l.file (length l.front.headers.list.items - l.passed) l.position l.reach;
+  along : IsAlongFile l.image l.notes.cells.items l.file (length l.headers.listed.list.items - l.passed) l.position l.summary;
 }

@@ -32,17 +32,17 @@ returns-then-not-is_known-clause-seen c =
 pub returns-then-not-is_known-clause-first : goal.returns-then-not-is_known-clause-first
 returns-then-not-is_known-clause-first c = λ _. first c.args.image.now c.args.firsts.now c.args.piece c.requires.firsts (c.requires.piece (sym c.byte.ensures ∙ c.if-byte-ne0.false)) (omega (arith, c.if-piece-eq0.false))
 
-pub returns-then-has_behind-clause-piece : goal.returns-then-has_behind-clause-piece
-returns-then-has_behind-clause-piece c = λ _.
+pub returns-then-has_next-clause-piece : goal.returns-then-has_next-clause-piece
+returns-then-has_next-clause-piece c = λ _.
     let image = c.args.image.now in
     let seen = c.args.seen.now in
     let piece = c.args.piece in
     let cells = c.args.notes.now.cells.items in
     settled_piece image cells piece seen (get_or seen piece.header None) (c.requires.piece (sym c.byte.ensures ∙ c.if-byte-ne0.false)) c.requires.seen (seen_at image cells seen piece c.requires.seen (c.requires.piece (sym c.byte.ensures ∙ c.if-byte-ne0.false)))
-    (sym c.is_known.ensures ∙ c.if-not-is_known.false) (c.has_behind.ensures c.if-has_behind.true)
+    (sym c.is_known.ensures ∙ c.if-not-is_known.false) (c.has_next.ensures c.if-has_next.true)
 
-pub returns-then-has_behind-clause-first : goal.returns-then-has_behind-clause-first
-returns-then-has_behind-clause-first c = λ _. first c.args.image.now c.args.firsts.now c.args.piece c.requires.firsts (c.requires.piece (sym c.byte.ensures ∙ c.if-byte-ne0.false)) (omega (arith, c.if-piece-eq0.false))
+pub returns-then-has_next-clause-first : goal.returns-then-has_next-clause-first
+returns-then-has_next-clause-first c = λ _. first c.args.image.now c.args.firsts.now c.args.piece c.requires.firsts (c.requires.piece (sym c.byte.ensures ∙ c.if-byte-ne0.false)) (omega (arith, c.if-piece-eq0.false))
 
 pub returns-clause-seen : goal.returns-clause-seen
 returns-clause-seen c = all_seen_on c.args.image.now c.args.notes.now.cells.items c.look_at_one.new.notes.cells.items c.look_at_one.ensures.stays c.args.seen.now c.requires.seen

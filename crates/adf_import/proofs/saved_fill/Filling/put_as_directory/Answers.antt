@@ -15,4 +15,4 @@ returns-in_ok-push-in-Ok c =
     record { keeps = there.keeps; progress = c.in_ok-push-in-Ok.ensures c.enter_directory.new.volume.image ready }
 
 pub returns-in_ok-push-in-Err : goal.returns-in_ok-push-in-Err
-returns-in_ok-push-in-Err c = same_advances c.args.volume.now c.enter_directory.new.volume c.args.dir c.args.progress.now _ c.in-Err.ensures.entered.0 c.requires c.in_ok-push-in-Err.ensures
+returns-in_ok-push-in-Err c = same_advances c.args.volume.now c.enter_directory.new.volume c.args.dir c.args.progress.now _ c.in-Err.ensures.entered.0.0 c.requires c.in_ok-push-in-Err.ensures

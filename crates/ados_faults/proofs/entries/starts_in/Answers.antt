@@ -1,1 +1,0 @@
-use Rattle.ados_faults.proofs.entries.starts_in.Goals as goal
